@@ -1,0 +1,8 @@
+pub mod Slices
+pub mod Items
+pub mod Steps
+pub mod Ends
+pub mod Sound
+pub mod Complete
+pub mod Theorems
+pub mod Cases

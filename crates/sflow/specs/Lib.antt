@@ -1,0 +1,7 @@
+pub mod Refusals
+pub mod Slices
+pub mod Grammar
+pub mod Decode
+pub mod Datagram
+pub mod Reading
+pub mod Cases

@@ -1,0 +1,5 @@
+pub mod Octets
+pub mod Reading
+pub mod Runs
+pub mod Padding
+pub mod Writing

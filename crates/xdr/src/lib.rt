@@ -1,0 +1,251 @@
+// Items of XDR (RFC 1832) read out of octets and written into them.
+// Every function answers for every slice and every offset, also an offset beyond the slice.
+ghost use mathlib.Core.Path.{_≡_};
+ghost use Prim.Native.Nat.{_+_, _*_, _≤_};
+ghost use lib.ListN.{length, replicate};
+ghost use Rattle.xdr.specs.Numbers.{octetsOf};
+ghost use Rattle.xdr.specs.Items.{wordAt, hyperAt, quadAt, itemsAt, runAt, zerosAt, paddedAt};
+ghost use Rattle.xdr.specs.Writes.{stored, writeAt, wrote, paddedOctets};
+
+// A word, 4 octets: its value and the offset behind it, or the offset of a word that is cut short.
+pub enum WordRead {
+    Word(u32, usize),
+    CutWord(usize),
+}
+
+pub fn read_word(s: &[u8], at: usize) -> WordRead
+    ensures { λ r. ⌜ r ≡ wordAt (now (s .entry)) at ⌝ }
+{
+    if s.len() < at {
+        return WordRead::CutWord(at);
+    }
+    if s.len() - at < 4 {
+        return WordRead::CutWord(at);
+    }
+    WordRead::Word(word_of(s[at], s[at + 1], s[at + 2], s[at + 3]), at + 4)
+}
+
+// The number that four octets are, the most significant first.
+fn word_of(a: u8, b: u8, c: u8, d: u8) -> u32
+    ensures { λ r. ⌜ r ≡ a * 16777216 + b * 65536 + c * 256 + d ⌝ }
+{
+    (a as u32) * 16777216 + (b as u32) * 65536 + (c as u32) * 256 + (d as u32)
+}
+
+// A hyper, 8 octets.
+pub enum HyperRead {
+    Hyper(u64, usize),
+    CutHyper(usize),
+}
+
+pub fn read_hyper(s: &[u8], at: usize) -> HyperRead
+    ensures { λ r. ⌜ r ≡ hyperAt (now (s .entry)) at ⌝ }
+{
+    let WordRead::Word(high, middle) = read_word(s, at) else {
+        return HyperRead::CutHyper(at);
+    };
+    let WordRead::Word(low, next) = read_word(s, middle) else {
+        return HyperRead::CutHyper(at);
+    };
+    HyperRead::Hyper((high as u64) * 4294967296 + (low as u64), next)
+}
+
+// The 16 octets of an IPv6 address, one item, as four words. (The 4 octets of an IPv4 address are read as a word.)
+pub enum QuadRead {
+    Quad(u32, u32, u32, u32, usize),
+    CutQuad(usize),
+}
+
+pub fn read_quad(s: &[u8], at: usize) -> QuadRead
+    ensures { λ r. ⌜ r ≡ quadAt (now (s .entry)) at ⌝ }
+{
+    let WordRead::Word(a, second) = read_word(s, at) else {
+        return QuadRead::CutQuad(at);
+    };
+    let WordRead::Word(b, third) = read_word(s, second) else {
+        return QuadRead::CutQuad(at);
+    };
+    let WordRead::Word(c, fourth) = read_word(s, third) else {
+        return QuadRead::CutQuad(at);
+    };
+    let WordRead::Word(d, next) = read_word(s, fourth) else {
+        return QuadRead::CutQuad(at);
+    };
+    QuadRead::Quad(a, b, c, d, next)
+}
+
+// A run of items of fixed widths: the offset behind the last one, or the offset of the first that is cut short.
+pub enum RunRead {
+    Run(usize),
+    CutRun(usize),
+}
+
+// Items of these widths, whatever their values, one behind the other. Where so many octets as total says are there, one comparison
+// tells; with total the sum of the widths, the answer is that of reading item by item (law run-items).
+pub fn read_run(s: &[u8], at: usize, total: usize, widths: &[u8]) -> RunRead
+    ensures { λ r. ⌜ r ≡ runAt (now (s .entry)) at total (now (widths .entry)) ⌝ }
+{
+    if at <= s.len() {
+        if total <= s.len() - at {
+            return RunRead::Run(at + total);
+        }
+    }
+    each_item(s, at, widths)
+}
+
+// The same item by item.
+fn each_item(s: &[u8], first: usize, widths: &[u8]) -> RunRead
+    ensures { λ r. ⌜ r ≡ itemsAt (now (s .entry)) first (now (widths .entry)) ⌝ }
+{
+    let mut at = first;
+    let mut i = 0;
+    while i < widths.len() {
+        let width = widths[i] as usize;
+        if s.len() < at {
+            return RunRead::CutRun(at);
+        }
+        if s.len() - at < width {
+            return RunRead::CutRun(at);
+        }
+        at += width;
+        i += 1;
+    }
+    RunRead::Run(at)
+}
+
+// A string's octets with their padding, one item: the offset behind it; or the offset of the octets where some of them or of the
+// padding are missing; or the offset of the first padding octet that is not zero.
+pub enum PaddedRead {
+    Padded(usize),
+    CutPadded(usize),
+    NonzeroPadding(usize),
+}
+
+pub fn read_padded(s: &[u8], at: usize, len: u32) -> PaddedRead
+    ensures { λ r. ⌜ r ≡ paddedAt (now (s .entry)) at len ⌝ }
+{
+    let count = len as usize;
+    let whole = (count + 3) / 4 * 4;
+    if s.len() < at {
+        return PaddedRead::CutPadded(at);
+    }
+    if s.len() - at < whole {
+        return PaddedRead::CutPadded(at);
+    }
+    match all_zero(s, at + count, whole - count) {
+        Zeros::AllZero => PaddedRead::Padded(at + whole),
+        Zeros::NotZero(p) => PaddedRead::NonzeroPadding(p),
+    }
+}
+
+// Whether octets are all zero, or the offset of the first that is not.
+pub enum Zeros {
+    AllZero,
+    NotZero(usize),
+}
+
+fn all_zero(s: &[u8], first: usize, count: usize) -> Zeros
+    requires { ⌜ first + count ≤ length (now s) ⌝ }
+    ensures { λ r. ⌜ r ≡ zerosAt (now (s .entry)) first count ⌝ }
+{
+    let mut at = first;
+    let mut left = count;
+    while 0 < left {
+        if s[at] != 0 {
+            return Zeros::NotZero(at);
+        }
+        at += 1;
+        left -= 1;
+    }
+    Zeros::AllZero
+}
+
+// The offset behind what was written; or it does not fit there, and every octet is as it was.
+pub enum Written {
+    WrittenTo(usize),
+    Full,
+}
+
+pub fn write_word(d: &mut [u8], at: usize, v: u32) -> Written
+    ensures { λ r. ⌜ wrote r (now (d .exit)) ≡ writeAt (now (d .entry)) at (octetsOf 4 v) ⌝ }
+{
+    if d.len() < at {
+        return Written::Full;
+    }
+    if d.len() - at < 4 {
+        return Written::Full;
+    }
+    d[at] = (v / 16777216) as u8;
+    d[at + 1] = (v / 65536 % 256) as u8;
+    d[at + 2] = (v / 256 % 256) as u8;
+    d[at + 3] = (v % 256) as u8;
+    Written::WrittenTo(at + 4)
+}
+
+pub fn write_hyper(d: &mut [u8], at: usize, v: u64) -> Written
+    ensures { λ r. ⌜ wrote r (now (d .exit)) ≡ writeAt (now (d .entry)) at (octetsOf 8 v) ⌝ }
+{
+    if d.len() < at {
+        return Written::Full;
+    }
+    if d.len() - at < 8 {
+        return Written::Full;
+    }
+    write_word(d, at, (v / 4294967296) as u32);
+    write_word(d, at + 4, (v % 4294967296) as u32)
+}
+
+pub fn write_octets(d: &mut [u8], at: usize, xs: &[u8]) -> Written
+    ensures { λ r. ⌜ wrote r (now (d .exit)) ≡ writeAt (now (d .entry)) at (now (xs .entry)) ⌝ }
+{
+    let count = xs.len();
+    if d.len() < at {
+        return Written::Full;
+    }
+    if d.len() - at < count {
+        return Written::Full;
+    }
+    copy(d, at, xs);
+    Written::WrittenTo(at + count)
+}
+
+// A string's octets with their padding.
+pub fn write_padded(d: &mut [u8], at: usize, xs: &[u8]) -> Written
+    ensures { λ r. ⌜ wrote r (now (d .exit)) ≡ writeAt (now (d .entry)) at (paddedOctets (now (xs .entry))) ⌝ }
+{
+    let count = xs.len();
+    let whole = (count + 3) / 4 * 4;
+    if d.len() < at {
+        return Written::Full;
+    }
+    if d.len() - at < whole {
+        return Written::Full;
+    }
+    copy(d, at, xs);
+    clear(d, at + count, whole - count);
+    Written::WrittenTo(at + whole)
+}
+
+// Octets put in place of those that stand from an offset on.
+fn copy(d: &mut [u8], at: usize, xs: &[u8])
+    requires { ⌜ at + length (now xs) ≤ length (now d) ⌝ }
+    ensures { λ _. ⌜ now (d .exit) ≡ stored (now (d .entry)) at (now (xs .entry)) ⌝ }
+{
+    let mut i = 0;
+    while i < xs.len() {
+        d[at + i] = xs[i];
+        i += 1;
+    }
+}
+
+// Zero octets from an offset on.
+fn clear(d: &mut [u8], at: usize, count: usize)
+    requires { ⌜ at + count ≤ length (now d) ⌝ }
+    ensures { λ _. ⌜ now (d .exit) ≡ stored (now (d .entry)) at (replicate count 0) ⌝ }
+{
+    let mut i = 0;
+    while i < count {
+        d[at + i] = 0;
+        i += 1;
+    }
+}
