@@ -3,7 +3,7 @@ use Prim.Native.Nat.{ℕ, zero, suc, _+_, _*_, _^_, _≤_, _<_}
 use native.Mathlib.Omega.{arith}
 use mathlib.Core.Path.{_≡_, refl, ap, _∙_}
 use mathlib.Core.List.{List, [], _∷_}
-use mathlib.Core.Bool.{Bool, true, false}
+use mathlib.Core.Bool.{Bool, true, false, cond}
 use lib.ListN.{length, take, drop}
 use borrow.Author.Tests.{le-leb, lt-leb}
 use Rattle.xdr.specs.Numbers.{numberAt}
@@ -17,7 +17,7 @@ use Rattle.xdr.proofs.Reading.{WordsRead, word-read, word-cut, word-short, quad
 use Rattle.sflow.specs.declared.Refusal.{Refusal}
 use Rattle.sflow.specs.declared.Refusal.the-variants.{CutItem}
 use Rattle.sflow.specs.Grammar.{none, atMost, Form, fixed, union, opaque, list, _then_, Value}
-use Rattle.sflow.specs.Decode.{Decoded, found, refused, andThen, mapped, fixedItems, stringItem, entries, decode}
+use Rattle.sflow.specs.Decode.{Decoded, found, refused, andThen, mapped, wordItem, fixedItems, stringItem, entries, decode}
 
 -- ---- fixed items
 
@@ -69,74 +69,94 @@ fixed-quad-cut s at p ws e = fixed-stop s at 16 ws (quad-short s at p e)
 
 -- ---- unions
 
-pub union-cut : (why : Refusal) (test : ℕ → Bool) (arms : ℕ → Form) (s : List ℕ) (at p : ℕ) → wordAt s at ≡ CutWord p
-    → decode (union why test arms) s at ≡ refused CutItem at
-unfolding decode
-union-cut why test arms s at p e = rw (e, word-cut s at p e)
+module _ (why : Refusal) (test : ℕ → Bool) (arms : ℕ → Form) (s : List ℕ) (at : ℕ) {A : Type 0} (view : Value (union why test arms) → A) where
+  pub union-cut : (p : ℕ) → wordAt s at ≡ CutWord p → mapped view (decode (union why test arms) s at) ≡ refused CutItem at
+  unfolding decode
+  union-cut p e = rw (e, word-cut s at p e)
 
-pub union-bad : (why : Refusal) (test : ℕ → Bool) (arms : ℕ → Form) (s : List ℕ) (at v next : ℕ) → wordAt s at ≡ Word v next → test v ≡ false
-    → decode (union why test arms) s at ≡ refused why at
-unfolding decode
-union-bad why test arms s at v next e f = rw (e, f)
+  pub union-bad : (v next : ℕ) → wordAt s at ≡ Word v next → test v ≡ false → mapped view (decode (union why test arms) s at) ≡ refused why at
+  unfolding decode
+  union-bad v next e f = rw (e, f)
 
-pub union-arm : (why : Refusal) (test : ℕ → Bool) (arms : ℕ → Form) (s : List ℕ) (at v next : ℕ) → wordAt s at ≡ Word v next → test v ≡ true
-    → {A : Type 0} (view : Value (union why test arms) → A)
-    → mapped view (decode (union why test arms) s at) ≡ mapped (λ w. view (v, w)) (decode (arms v) s next)
+  pub union-arm : (v next : ℕ) → wordAt s at ≡ Word v next → test v ≡ true
+      → mapped view (decode (union why test arms) s at) ≡ mapped (λ w. view (v, w)) (decode (arms v) s next)
+  unfolding decode
+  union-arm v next e f = rw (e, f) (go (decode (arms v) s next))
+    where
+      go : (d : Decoded (Value (arms v))) → mapped view (andThen d λ w end. found (v, w) end) ≡ mapped (λ w. view (v, w)) d
+      go (found w end) = refl
+      go (refused why p) = refl
+
+-- a union is a word that passes the test, and its arm
+pub union-is : (why : Refusal) (test : ℕ → Bool) (arms : ℕ → Form) (s : List ℕ) (at : ℕ)
+    → decode (union why test arms) s at
+    ≡ andThen (wordItem (wordAt s at)) λ v next.
+    cond (test v) (andThen (decode (arms v) s next) λ w end. found (v, w) end) (refused why at)
 unfolding decode
-union-arm why test arms s at v next e f view = rw (e, f) (go (decode (arms v) s next))
-  where
-    go : (d : Decoded (Value (arms v))) → mapped view (andThen d λ w end. found (v, w) end) ≡ mapped (λ w. view (v, w)) d
-    go (found w end) = refl
-    go (refused why p) = refl
+union-is why test arms s at = refl
 
 -- ---- strings and lists
 
-pub string-cut : (s : List ℕ) (at p : ℕ) → wordAt s at ≡ CutWord p → decode (opaque none) s at ≡ refused CutItem at
+pub string-cut : (s : List ℕ) (at : ℕ) {A : Type 0} (view : List ℕ → A) (p : ℕ) → wordAt s at ≡ CutWord p
+    → mapped view (decode (opaque none) s at) ≡ refused CutItem at
 unfolding decode
-string-cut s at p e = rw (e, word-cut s at p e)
+string-cut s at view p e = rw (e, word-cut s at p e)
 
-pub string-word : (s : List ℕ) (at n next : ℕ) → wordAt s at ≡ Word n next
-    → decode (opaque none) s at ≡ stringItem (take n (drop next s)) (paddedAt s next n)
+pub string-word : (s : List ℕ) (at : ℕ) {A : Type 0} (view : List ℕ → A) (n next : ℕ) → wordAt s at ≡ Word n next
+    → mapped view (decode (opaque none) s at) ≡ mapped view (stringItem (take n (drop next s)) (paddedAt s next n))
 unfolding decode
-string-word s at n next e = rw e
+string-word s at view n next e = rw e
 
 -- a string with a limit
-pub limited-cut : (most : ℕ) (why : Refusal) (s : List ℕ) (at p : ℕ) → wordAt s at ≡ CutWord p → decode (opaque (atMost most why)) s at ≡ refused CutItem at
-unfolding decode
-limited-cut most why s at p e = rw (e, word-cut s at p e)
+module _ (most : ℕ) (why : Refusal) (s : List ℕ) (at : ℕ) where
+  pub limited-cut : (p : ℕ) → wordAt s at ≡ CutWord p → decode (opaque (atMost most why)) s at ≡ refused CutItem at
+  unfolding decode
+  limited-cut p e = rw (e, word-cut s at p e)
 
-pub limited-over : (most : ℕ) (why : Refusal) (s : List ℕ) (at n next : ℕ) → wordAt s at ≡ Word n next → most < n
-    → decode (opaque (atMost most why)) s at ≡ refused why at
-unfolding decode
-limited-over most why s at n next e h = rw (e, lt-leb n most h)
+  pub limited-over : (n next : ℕ) → wordAt s at ≡ Word n next → most < n → decode (opaque (atMost most why)) s at ≡ refused why at
+  unfolding decode
+  limited-over n next e h = rw (e, lt-leb n most h)
 
-pub limited-word : (most : ℕ) (why : Refusal) (s : List ℕ) (at n next : ℕ) → wordAt s at ≡ Word n next → n ≤ most
-    → decode (opaque (atMost most why)) s at ≡ stringItem (take n (drop next s)) (paddedAt s next n)
-unfolding decode
-limited-word most why s at n next e h = rw (e, le-leb n most h)
+  pub limited-word : (n next : ℕ) → wordAt s at ≡ Word n next → n ≤ most
+      → decode (opaque (atMost most why)) s at ≡ stringItem (take n (drop next s)) (paddedAt s next n)
+  unfolding decode
+  limited-word n next e h = rw (e, le-leb n most h)
 
-pub list-cut : (g : Form) (s : List ℕ) (at p : ℕ) → wordAt s at ≡ CutWord p → decode (list g) s at ≡ refused CutItem at
+pub list-cut : (g : Form) (s : List ℕ) (at : ℕ) {A : Type 0} (view : List (Value g) → A) (p : ℕ) → wordAt s at ≡ CutWord p
+    → mapped view (decode (list g) s at) ≡ refused CutItem at
 unfolding decode
-list-cut g s at p e = rw (e, word-cut s at p e)
+list-cut g s at view p e = rw (e, word-cut s at p e)
 
-pub list-word : (g : Form) (s : List ℕ) (at n next : ℕ) → wordAt s at ≡ Word n next → decode (list g) s at ≡ entries (decode g s) n next
+pub list-word : (g : Form) (s : List ℕ) (at : ℕ) {A : Type 0} (view : List (Value g) → A) (n next : ℕ) → wordAt s at ≡ Word n next
+    → mapped view (decode (list g) s at) ≡ mapped view (entries (decode g s) n next)
 unfolding decode
-list-word g s at n next e = rw e
+list-word g s at view n next e = rw e
+
+-- a list is its count and so many entries
+pub list-is : (g : Form) (s : List ℕ) (at : ℕ) → decode (list g) s at ≡ andThen (wordItem (wordAt s at)) λ n next. entries (decode g s) n next
+unfolding decode
+list-is g s at = refl
 
 -- ---- one form behind another
 
-pub then-refused : (f g : Form) (s : List ℕ) (at : ℕ) (why : Refusal) (p : ℕ) → decode f s at ≡ refused why p → decode (f then g) s at ≡ refused why p
+pub then-is : (f g : Form) (s : List ℕ) (at : ℕ)
+    → decode (f then g) s at ≡ andThen (decode f s at) λ v next. andThen (decode g s next) λ w end. found (v, w) end
 unfolding decode
-then-refused f g s at why p e = rw e
+then-is f g s at = refl
 
-pub then-found : (f g : Form) (s : List ℕ) (at : ℕ) (v : Value f) (next : ℕ) → decode f s at ≡ found v next
-    → {A : Type 0} (view : Value (f then g) → A) → mapped view (decode (f then g) s at) ≡ mapped (λ w. view (v, w)) (decode g s next)
-unfolding decode
-then-found f g s at v next e view = rw e (go (decode g s next))
-  where
-    go : (d : Decoded (Value g)) → mapped view (andThen d λ w end. found (v, w) end) ≡ mapped (λ w. view (v, w)) d
-    go (found w end) = refl
-    go (refused why p) = refl
+module _ (f g : Form) (s : List ℕ) (at : ℕ) {A : Type 0} (view : Value (f then g) → A) where
+  pub then-refused : (why : Refusal) (p : ℕ) → decode f s at ≡ refused why p → mapped view (decode (f then g) s at) ≡ refused why p
+  unfolding decode
+  then-refused why p e = rw e
+
+  pub then-found : (v : Value f) (next : ℕ) → decode f s at ≡ found v next
+      → mapped view (decode (f then g) s at) ≡ mapped (λ w. view (v, w)) (decode g s next)
+  unfolding decode
+  then-found v next e = rw e (go (decode g s next))
+    where
+      go : (d : Decoded (Value g)) → mapped view (andThen d λ w end. found (v, w) end) ≡ mapped (λ w. view (v, w)) d
+      go (found w end) = refl
+      go (refused why p) = refl
 
 -- ---- entries
 

@@ -1,0 +1,20 @@
+//! A second reader and encoder of sFlow version 4 datagrams (RFC 3176), with
+//! a seeded generator of test vectors.
+
+pub mod bases;
+pub mod cases;
+pub mod counters;
+pub mod cursor;
+pub mod damage;
+pub mod dump;
+pub mod edges;
+pub mod encoder;
+pub mod generator;
+pub mod grammar;
+pub mod parts;
+pub mod random;
+pub mod reader;
+pub mod refusal;
+pub mod sample_reader;
+pub mod value;
+pub mod vectors;

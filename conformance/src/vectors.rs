@@ -1,0 +1,93 @@
+//! The whole set of test vectors, and the two files that hold it: the octets
+//! of each vector behind their length, and the reader's answers as text.
+
+use std::collections::BTreeSet;
+
+use crate::cases::cases;
+use crate::damage::damaged;
+use crate::dump::answer;
+use crate::edges::edge_lengths;
+use crate::encoder::encode;
+use crate::generator::valid_datagrams;
+use crate::random::Random;
+
+/// The seed of the set that the program `vectors` writes.
+pub const SEED: u64 = 3176;
+
+/// Which part of the set a vector belongs to.
+#[derive(Clone, Copy, Debug, PartialEq, Eq)]
+pub enum Part {
+    Case,
+    Valid,
+    Damaged,
+    EdgeLength,
+}
+
+#[derive(Clone, Debug, PartialEq, Eq)]
+pub struct Vector {
+    pub part: Part,
+    pub octets: Vec<u8>,
+}
+
+/// The set for a seed: the reader's cases, then the seed's vectors.
+pub fn vectors(seed: u64) -> Vec<Vector> {
+    let first = cases().into_iter().map(|case| Vector {
+        part: Part::Case,
+        octets: case.octets,
+    });
+    first.chain(seeded(seed)).collect()
+}
+
+/// The vectors that come from a seed. No octets come twice among them; the
+/// octets of cases 1 and 2 are among them too.
+fn seeded(seed: u64) -> Vec<Vector> {
+    let mut random = Random::new(seed);
+    let valid = valid_datagrams(&mut random);
+    let valid = valid
+        .iter()
+        .map(|datagram| encode(datagram).octets)
+        .collect();
+    let parts: [(Part, Vec<Vec<u8>>); 3] = [
+        (Part::Valid, valid),
+        (Part::Damaged, damaged(&mut random)),
+        (Part::EdgeLength, edge_lengths(&mut random)),
+    ];
+    let mut seen = BTreeSet::new();
+    let mut set = Vec::new();
+    for (part, strings) in parts {
+        for octets in strings {
+            if seen.insert(octets.clone()) {
+                set.push(Vector { part, octets });
+            }
+        }
+    }
+    set
+}
+
+/// The vectors' octets, each behind its length in 4 octets, big-endian.
+pub fn framed(set: &[Vector]) -> Vec<u8> {
+    let mut out = Vec::new();
+    for vector in set {
+        let length = u32::try_from(vector.octets.len()).unwrap_or(u32::MAX);
+        out.extend(length.to_be_bytes());
+        out.extend_from_slice(&vector.octets);
+    }
+    out
+}
+
+/// The strings of octets of a framed file, or nothing if it is cut short.
+pub fn unframed(mut file: &[u8]) -> Option<Vec<&[u8]>> {
+    let mut strings = Vec::new();
+    while !file.is_empty() {
+        let (length, rest) = file.split_first_chunk::<4>()?;
+        let length = usize::try_from(u32::from_be_bytes(*length)).ok()?;
+        strings.push(rest.get(..length)?);
+        file = rest.get(length..)?;
+    }
+    Some(strings)
+}
+
+/// The reader's answers to the vectors.
+pub fn answers(set: &[Vector]) -> String {
+    set.iter().map(|vector| answer(&vector.octets)).collect()
+}

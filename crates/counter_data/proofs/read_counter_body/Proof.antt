@@ -1,0 +1,61 @@
+use borrow.Author.Needs.{needs}
+use Rattle.counter_data.proofs.Bodies.{body-cut, body-bad, body-short, body-found, version-zero, version-over, version-listed}
+use Rattle.counter_data.specs.declared.CounterBodyRead.the-variants.{Refused}
+use Rattle.sflow.specs.declared.Refusal.the-variants.{CutItem}
+use Rattle.counter_data.specs.CounterBodies.{asCounterBody}
+use mathlib.Core.Path.{sym, ap, _∙_}
+use Rattle.counter_data.proofs.read_counter_body.Statement.{statement}
+use Rattle.counter_data.proofs.read_counter_body.Tie as tie
+
+read-word-requires : tie.Need-read-word-requires
+read-word-requires c κs = search needs
+
+enum-known-version : tie.Need-enum-known-version
+enum-known-version c = search needs
+
+enum-told : tie.Need-enum-told
+enum-told c = search needs
+
+returns : tie.Need-returns
+returns c = sym (ap asCounterBody (body-cut _ _ _ (sym (c .before .before .read-word .ensures) ∙ c .enum-told .given .1)))
+
+returns-2 : tie.Need-returns-2
+returns-2 c = sym (ap asCounterBody (body-bad _ _ _ _ (sym (c .before .before .before .before .read-word .ensures) ∙ c .before .before .version .given .1) (version-zero _ (c .if1 .taken))))
+
+returns-3 : tie.Need-returns-3
+returns-3 c = sym (ap asCounterBody (body-bad _ _ _ _ (sym (c .before .before .before .before .before .read-word .ensures) ∙ c .before .before .before .version .given .1) (version-over _ (c .if2 .taken))))
+
+pass-body-requires : tie.Need-pass-body-requires
+pass-body-requires c κs = search needs
+
+enum-known-run : tie.Need-enum-known-run
+enum-known-run c = search needs
+
+enum-told-2 : tie.Need-enum-told-2
+enum-told-2 c = search needs
+
+place-of-requires : tie.Need-place-of-requires
+place-of-requires c κs = search needs
+
+returns-4 : tie.Need-returns-4
+returns-4 c = ap (Refused CutItem) (c .place-of .ensures) ∙ sym (ap asCounterBody (body-short _ _ _ _ _ _ (sym (c .before .before .before .before .before .before .before .before .before .read-word .ensures) ∙ c .before .before .before .before .before .before .before .version .given .1) (version-listed _ (c .before .before .before .before .before .if1 .left) (c .before .before .before .before .if2 .left)) (c .before .before .before .pass-body .ensures) (c .before .enum-told2 .given .1)))
+
+returns-5 : tie.Need-returns-5
+returns-5 c = sym (ap asCounterBody (body-found _ _ _ _ _ (sym (c .before .before .before .before .before .before .before .before .before .read-word .ensures) ∙ c .before .before .before .before .before .before .before .version .given .1) (version-listed _ (c .before .before .before .before .before .if1 .left) (c .before .before .before .before .if2 .left)) (sym (c .before .before .before .pass-body .ensures) ∙ c .before .run .given .1)))
+
+pub read-counter-body-spec : {M : Type 1} → statement M
+read-counter-body-spec =
+    tie.close
+    (tie.spec
+    read-word-requires
+    enum-known-version
+    enum-told
+    returns
+    returns-2
+    returns-3
+    pass-body-requires
+    enum-known-run
+    enum-told-2
+    place-of-requires
+    returns-4
+    returns-5)

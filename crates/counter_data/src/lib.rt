@@ -1,0 +1,164 @@
+// Counters of a counter sample.
+use sflow::Refusal;
+use xdr::HyperRead;
+use xdr::RunRead;
+use xdr::WordRead;
+ghost use mathlib.Core.Path.{_≡_};
+ghost use mathlib.Core.List.{[]};
+ghost use Prim.Native.Nat.{_≤_};
+ghost use lib.Dec.{T};
+ghost use lib.ListN.{length};
+ghost use Rattle.xdr.specs.Items.{itemsAt};
+ghost use Rattle.sflow.specs.Grammar.{fixed, chosen};
+ghost use Rattle.sflow.specs.Decode.{decode, mapped};
+ghost use Rattle.sflow.specs.Datagram.{counters-versions, counters-type};
+ghost use Rattle.counter_data.specs.CounterBodies.{counterBodyOf, asCounterBody, placeOf, ofVersion, counterValuesOf, noValues, counterAt, wordsAndHypers};
+
+// A counters version, 1 to 7, and the offset of the first counter.
+pub struct CounterBody {
+    pub version: u32,
+    pub at: usize,
+}
+
+pub enum CounterBodyRead {
+    Found(CounterBody, usize),
+    Refused(Refusal, usize),
+}
+
+// The widths of the counters of each version; FDDI and WAN counters are those of every interface.
+const IF_WIDTHS: [u8; 19] =
+    *b"\x04\x04\x08\x04\x04\x08\x04\x04\x04\x04\x04\x04\x08\x04\x04\x04\x04\x04\x04";
+
+const ETHERNET_WIDTHS: [u8; 32] =
+    *b"\x04\x04\x08\x04\x04\x08\x04\x04\x04\x04\x04\x04\x08\x04\x04\x04\x04\x04\x04\x04\x04\x04\x04\x04\x04\x04\x04\x04\x04\x04\x04\x04";
+
+const TOKENRING_WIDTHS: [u8; 37] =
+    *b"\x04\x04\x08\x04\x04\x08\x04\x04\x04\x04\x04\x04\x08\x04\x04\x04\x04\x04\x04\x04\x04\x04\x04\x04\x04\x04\x04\x04\x04\x04\x04\x04\x04\x04\x04\x04\x04";
+
+const VG_WIDTHS: [u8; 33] =
+    *b"\x04\x04\x08\x04\x04\x08\x04\x04\x04\x04\x04\x04\x08\x04\x04\x04\x04\x04\x04\x04\x08\x04\x08\x04\x04\x04\x04\x04\x08\x04\x08\x08\x08";
+
+const VLAN_WIDTHS: [u8; 6] = *b"\x04\x08\x04\x04\x04\x04";
+
+// Whether the octets of a version's counters are all there.
+fn pass_body(s: &[u8], at: usize, version: u32) -> RunRead
+    ensures { λ r. ⌜ r ≡ itemsAt (now (s .entry)) at (chosen [] counters-versions version) ⌝ }
+{
+    match version {
+        1 | 4 | 6 => xdr::read_run(s, at, 88, &IF_WIDTHS),
+        2 => xdr::read_run(s, at, 140, &ETHERNET_WIDTHS),
+        3 => xdr::read_run(s, at, 160, &TOKENRING_WIDTHS),
+        5 => xdr::read_run(s, at, 168, &VG_WIDTHS),
+        7 => xdr::read_run(s, at, 28, &VLAN_WIDTHS),
+        _ => RunRead::Run(at),
+    }
+}
+
+// The offset that a run gives.
+fn place_of(run: RunRead) -> usize
+    ensures { λ r. ⌜ r ≡ placeOf run ⌝ }
+{
+    match run {
+        RunRead::Run(next) => next,
+        RunRead::CutRun(p) => p,
+    }
+}
+
+// Counters at their version word.
+pub fn read_counter_body(s: &[u8], at: usize) -> CounterBodyRead
+    ensures { λ r. ⌜ r ≡ asCounterBody (mapped (counterBodyOf at) (decode counters-type (now (s .entry)) at)) ⌝ }
+{
+    let WordRead::Word(version, first) = xdr::read_word(s, at) else {
+        return CounterBodyRead::Refused(Refusal::CutItem, at);
+    };
+    if version < 1 {
+        return CounterBodyRead::Refused(Refusal::CountersVersion, at);
+    }
+    if 7 < version {
+        return CounterBodyRead::Refused(Refusal::CountersVersion, at);
+    }
+    let run = pass_body(s, first, version);
+    let RunRead::Run(next) = run else {
+        return CounterBodyRead::Refused(Refusal::CutItem, place_of(run));
+    };
+    CounterBodyRead::Found(CounterBody { version, at: first }, next)
+}
+
+// How many counters were found, of which version.
+pub struct CounterCount {
+    pub version: u32,
+    pub count: usize,
+}
+
+pub enum CounterAnswer {
+    Found(CounterCount, usize),
+    Refused(Refusal, usize),
+}
+
+// The counters in the RFC's order, zeros behind them; all zero with a refusal.
+pub struct CounterValues {
+    pub answer: CounterAnswer,
+    pub numbers: [u64; 37],
+}
+
+// A refusal, and no counters.
+fn no_values(why: Refusal, p: usize) -> CounterValues
+    ensures { λ r. ⌜ r ≡ noValues why p ⌝ }
+{
+    CounterValues {
+        answer: CounterAnswer::Refused(why, p),
+        numbers: [0; 37],
+    }
+}
+
+// A counter of a width: a hyper where it is 8, and a word otherwise.
+fn read_counter(s: &[u8], at: usize, width: u8) -> HyperRead
+    ensures { λ r. ⌜ r ≡ counterAt (now (s .entry)) at width ⌝ }
+{
+    if width == 8 {
+        return xdr::read_hyper(s, at);
+    }
+    let WordRead::Word(v, next) = xdr::read_word(s, at) else {
+        return HyperRead::CutHyper(at);
+    };
+    HyperRead::Hyper(v as u64, next)
+}
+
+// The counters of a version, by their widths.
+fn read_values(s: &[u8], first: usize, version: u32, widths: &[u8]) -> CounterValues
+    requires { ⌜ (length (now widths) ≤ 37) × T (wordsAndHypers (now widths)) ⌝ }
+    ensures { λ r. ⌜ r ≡ counterValuesOf (mapped (ofVersion version) (decode (fixed (now (widths .entry))) (now (s .entry)) first)) ⌝ }
+{
+    let mut numbers: [u64; 37] = [0; 37];
+    let mut at = first;
+    let mut i = 0;
+    while i < widths.len() {
+        let HyperRead::Hyper(v, next) = read_counter(s, at, widths[i]) else {
+            return no_values(Refusal::CutItem, at);
+        };
+        numbers[i] = v;
+        at = next;
+        i += 1;
+    }
+    CounterValues {
+        answer: CounterAnswer::Found(CounterCount { version, count: i }, at),
+        numbers,
+    }
+}
+
+// Every counter of a body, at its version word.
+pub fn read_counter_values(s: &[u8], at: usize) -> CounterValues
+    ensures { λ r. ⌜ r ≡ counterValuesOf (decode counters-type (now (s .entry)) at) ⌝ }
+{
+    let WordRead::Word(version, first) = xdr::read_word(s, at) else {
+        return no_values(Refusal::CutItem, at);
+    };
+    match version {
+        1 | 4 | 6 => read_values(s, first, version, &IF_WIDTHS),
+        2 => read_values(s, first, version, &ETHERNET_WIDTHS),
+        3 => read_values(s, first, version, &TOKENRING_WIDTHS),
+        5 => read_values(s, first, version, &VG_WIDTHS),
+        7 => read_values(s, first, version, &VLAN_WIDTHS),
+        _ => no_values(Refusal::CountersVersion, at),
+    }
+}

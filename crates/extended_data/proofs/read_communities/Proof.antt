@@ -1,0 +1,77 @@
+use borrow.Author.Needs.{needs}
+use mathlib.Core.Path.{sym, ap, _∙_}
+use Rattle.extended_data.specs.ExtendedData.{asExtended}
+use Rattle.fields.proofs.FixedItems.{no-more, word-then, word-cut, reads-found}
+use Rattle.extended_data.proofs.Gateways.{communities-cut, communities-refused, communities-found}
+use Rattle.extended_data.proofs.read_communities.Statement.{statement}
+use Rattle.extended_data.proofs.read_communities.Tie as tie
+
+-- src/extended.rt:199:40
+read-word-requires : tie.Need-read-word-requires
+read-word-requires c κs = search needs
+
+-- src/extended.rt:199:24
+enum-known-count : tie.Need-enum-known-count
+enum-known-count c = search needs
+
+-- src/extended.rt:200:38
+enum-told : tie.Need-enum-told
+enum-told c = search needs
+
+-- src/extended.rt:200:9
+returns : tie.Need-returns
+returns c = sym (ap asExtended (communities-cut _ _ _ _ _ _ _ (sym (c .before .before .read-word .ensures) ∙ c .enum-told .given .1)))
+
+-- src/extended.rt:202:11
+pass-words-requires : tie.Need-pass-words-requires
+pass-words-requires c κs = search needs
+
+-- src/extended.rt:203:25
+enum-known-why : tie.Need-enum-known-why
+enum-known-why c = search needs
+
+-- src/extended.rt:204:22
+enum-known-end : tie.Need-enum-known-end
+enum-known-end c = search needs
+
+-- src/extended.rt:205:51
+read-word-requires-2 : tie.Need-read-word-requires-2
+read-word-requires-2 c κs = search needs
+
+-- src/extended.rt:205:32
+enum-known-localpref : tie.Need-enum-known-localpref
+enum-known-localpref c = search needs
+
+-- src/extended.rt:206:46
+enum-told-2 : tie.Need-enum-told-2
+enum-told-2 c = search needs
+
+-- src/extended.rt:206:17
+returns-2 : tie.Need-returns-2
+returns-2 c = sym (ap asExtended (communities-found _ _ _ _ _ _ _ _ (sym (c .before .before .before .before .before .before .before .before .before .before .read-word .ensures) ∙ c .before .before .before .before .before .before .before .before .count .given .1) _ _ (sym (c .before .before .before .before .before .before .pass-words .ensures) ∙ c .before .before .before .before .end .given .1) (reads-found (word-cut (sym (c .before .before .read-word2 .ensures) ∙ c .enum-told2 .given .1)))))
+
+-- src/extended.rt:189:1
+returns-3 : tie.Need-returns-3
+returns-3 c = sym (ap asExtended (communities-refused _ _ _ _ _ _ _ _ (sym (c .before .before .before .before .before .before .before .read-word .ensures) ∙ c .before .before .before .before .before .count .given .1) _ _ (sym (c .before .before .before .pass-words .ensures) ∙ c .before .why .given .1)))
+
+-- src/extended.rt:189:1
+returns-4 : tie.Need-returns-4
+returns-4 c = sym (ap asExtended (communities-found _ _ _ _ _ _ _ _ (sym (c .before .before .before .before .before .before .before .before .before .before .before .read-word .ensures) ∙ c .before .before .before .before .before .before .before .before .before .count .given .1) _ _ (sym (c .before .before .before .before .before .before .before .pass-words .ensures) ∙ c .before .before .before .before .before .end .given .1) (reads-found (word-then (sym (c .before .before .before .read-word2 .ensures) ∙ c .before .localpref .given .1) no-more))))
+
+pub read-communities-spec : {M : Type 1} → statement M
+read-communities-spec =
+    tie.close
+    (tie.spec
+    read-word-requires
+    enum-known-count
+    enum-told
+    returns
+    pass-words-requires
+    enum-known-why
+    enum-known-end
+    read-word-requires-2
+    enum-known-localpref
+    enum-told-2
+    returns-2
+    returns-3
+    returns-4)

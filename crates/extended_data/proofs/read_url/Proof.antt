@@ -1,0 +1,68 @@
+use borrow.Author.Needs.{needs}
+use mathlib.Core.Path.{sym, ap, _∙_}
+use Rattle.sflow.proofs.Steps.{union-cut}
+use Rattle.extended_data.specs.ExtendedData.{asExtended}
+use Rattle.fields.proofs.Compounds.{enumeration-below, enumeration-above}
+use Rattle.extended_data.proofs.Users.{url-string}
+use Rattle.extended_data.proofs.read_url.Statement.{statement}
+use Rattle.extended_data.proofs.read_url.Tie as tie
+
+-- src/extended.rt:265:44
+read-word-requires : tie.Need-read-word-requires
+read-word-requires c κs = search needs
+
+-- src/extended.rt:265:24
+enum-known-direction : tie.Need-enum-known-direction
+enum-known-direction c = search needs
+
+-- src/extended.rt:266:38
+enum-told : tie.Need-enum-told
+enum-told c = search needs
+
+-- src/extended.rt:266:9
+returns : tie.Need-returns
+returns c = sym (ap asExtended (union-cut _ _ _ _ _ _ _ (sym (c .before .before .read-word .ensures) ∙ c .enum-told .given .1)))
+
+-- src/extended.rt:269:9
+returns-2 : tie.Need-returns-2
+returns-2 c = sym (ap asExtended (enumeration-below _ _ _ _ _ _ _ _ (sym (c .before .before .before .before .read-word .ensures) ∙ c .before .before .direction .given .1) (c .if1 .taken)))
+
+-- src/extended.rt:272:9
+returns-3 : tie.Need-returns-3
+returns-3 c = sym (ap asExtended (enumeration-above _ _ _ _ _ _ _ _ (sym (c .before .before .before .before .before .read-word .ensures) ∙ c .before .before .before .direction .given .1) (c .before .if1 .left) (c .if2 .taken)))
+
+-- src/extended.rt:274:11
+read-string-requires : tie.Need-read-string-requires
+read-string-requires c κs = search needs
+
+-- src/extended.rt:275:29
+enum-known-why : tie.Need-enum-known-why
+enum-known-why c = search needs
+
+-- src/extended.rt:276:27
+enum-known-url : tie.Need-enum-known-url
+enum-known-url c = search needs
+
+-- src/extended.rt:262:1
+returns-4 : tie.Need-returns-4
+returns-4 c = sym (ap asExtended (url-string _ _ _ _ _ (sym (c .before .before .before .before .before .before .before .before .before .read-word .ensures) ∙ c .before .before .before .before .before .before .before .direction .given .1) (c .before .before .before .before .before .if1 .left) (c .before .before .before .before .if2 .left) (sym (c .before .before .before .read-string .ensures) ∙ c .before .why .given .1)))
+
+-- src/extended.rt:262:1
+returns-5 : tie.Need-returns-5
+returns-5 c = sym (ap asExtended (url-string _ _ _ _ _ (sym (c .before .before .before .before .before .before .before .before .before .read-word .ensures) ∙ c .before .before .before .before .before .before .before .direction .given .1) (c .before .before .before .before .before .if1 .left) (c .before .before .before .before .if2 .left) (sym (c .before .before .before .read-string .ensures) ∙ c .before .url .given .1)))
+
+pub read-url-spec : {M : Type 1} → statement M
+read-url-spec =
+    tie.close
+    (tie.spec
+    read-word-requires
+    enum-known-direction
+    enum-told
+    returns
+    returns-2
+    returns-3
+    read-string-requires
+    enum-known-why
+    enum-known-url
+    returns-4
+    returns-5)

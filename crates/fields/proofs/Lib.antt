@@ -1,0 +1,6 @@
+pub mod Addresses
+pub mod Texts
+pub mod Passing
+pub mod FixedItems
+pub mod Compounds
+pub mod Answers

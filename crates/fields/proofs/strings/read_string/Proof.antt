@@ -1,0 +1,57 @@
+use borrow.Author.Needs.{needs}
+use Rattle.fields.proofs.Texts.{text-found, text-refused}
+use Rattle.fields.specs.Strings.{asString}
+use Rattle.sflow.proofs.Steps.{string-cut}
+use mathlib.Core.Path.{sym, ap, _∙_}
+use Rattle.fields.proofs.strings.read_string.Statement.{statement}
+use Rattle.fields.proofs.strings.read_string.Tie as tie
+
+-- src/strings.rt:45:41
+read-word-requires : tie.Need-read-word-requires
+read-word-requires c κs = search needs
+
+-- src/strings.rt:45:24
+enum-known-length : tie.Need-enum-known-length
+enum-known-length c = search needs
+
+-- src/strings.rt:46:36
+enum-told : tie.Need-enum-told
+enum-told c = search needs
+
+-- src/strings.rt:46:9
+returns : tie.Need-returns
+returns c = sym (ap asString (string-cut _ _ _ _ (sym (c .before .before .read-word .ensures) ∙ c .enum-told .given .1)))
+
+-- src/strings.rt:48:11
+pass-octets-requires : tie.Need-pass-octets-requires
+pass-octets-requires c κs = search needs
+
+-- src/strings.rt:49:22
+enum-known-next : tie.Need-enum-known-next
+enum-known-next c = search needs
+
+-- src/strings.rt:50:25
+enum-known-why : tie.Need-enum-known-why
+enum-known-why c = search needs
+
+-- src/strings.rt:42:1
+returns-2 : tie.Need-returns-2
+returns-2 c = sym (ap asString (text-found _ _ _ _ _ (sym (c .before .before .before .before .before .before .before .read-word .ensures) ∙ c .before .before .before .before .before .length .given .1) (sym (c .before .before .before .pass-octets .ensures) ∙ c .before .next .given .1)))
+
+-- src/strings.rt:42:1
+returns-3 : tie.Need-returns-3
+returns-3 c = sym (ap asString (text-refused _ _ _ _ _ _ (sym (c .before .before .before .before .before .before .before .read-word .ensures) ∙ c .before .before .before .before .before .length .given .1) (sym (c .before .before .before .pass-octets .ensures) ∙ c .before .why .given .1)))
+
+pub read-string-spec : {M : Type 1} → statement M
+read-string-spec =
+    tie.close
+    (tie.spec
+    read-word-requires
+    enum-known-length
+    enum-told
+    returns
+    pass-octets-requires
+    enum-known-next
+    enum-known-why
+    returns-2
+    returns-3)

@@ -1,0 +1,191 @@
+// Packet data of a flow sample.
+use fields::address::Quad;
+use fields::strings::Passed;
+use fields::strings::Text;
+use sflow::Refusal;
+use xdr::QuadRead;
+use xdr::WordRead;
+ghost use mathlib.Core.Path.{_≡_};
+ghost use Rattle.sflow.specs.Decode.{decode, mapped};
+ghost use Rattle.sflow.specs.Datagram.{sampled-header, sampled-ipv4, sampled-ipv6, packet-data-type};
+ghost use Rattle.packet_data.specs.Packets.{quadOfWords, headerOf, ipv4Of, ipv6Of, packetOf, asPacket};
+
+pub struct SampledHeader {
+    pub protocol: u32,
+    pub frame_length: u32,
+    pub header: Text,
+}
+
+pub struct SampledIpv4 {
+    pub length: u32,
+    pub protocol: u32,
+    pub src_ip: u32,
+    pub dst_ip: u32,
+    pub src_port: u32,
+    pub dst_port: u32,
+    pub tcp_flags: u32,
+    pub tos: u32,
+}
+
+pub struct SampledIpv6 {
+    pub length: u32,
+    pub protocol: u32,
+    pub src_ip: Quad,
+    pub dst_ip: Quad,
+    pub src_port: u32,
+    pub dst_port: u32,
+    pub tcp_flags: u32,
+    pub priority: u32,
+}
+
+pub enum PacketData {
+    Header(SampledHeader),
+    Ipv4(SampledIpv4),
+    Ipv6(SampledIpv6),
+}
+
+pub enum PacketRead {
+    Found(PacketData, usize),
+    Refused(Refusal, usize),
+}
+
+fn read_header(s: &[u8], at: usize) -> PacketRead
+    ensures { λ r. ⌜ r ≡ asPacket (mapped (headerOf at) (decode sampled-header (now (s .entry)) at)) ⌝ }
+{
+    let WordRead::Word(protocol, frame_at) = xdr::read_word(s, at) else {
+        return PacketRead::Refused(Refusal::CutItem, at);
+    };
+    if protocol < 1 {
+        return PacketRead::Refused(Refusal::HeaderProtocol, at);
+    }
+    if 13 < protocol {
+        return PacketRead::Refused(Refusal::HeaderProtocol, at);
+    }
+    let WordRead::Word(frame_length, length_at) = xdr::read_word(s, frame_at) else {
+        return PacketRead::Refused(Refusal::CutItem, frame_at);
+    };
+    let WordRead::Word(length, start) = xdr::read_word(s, length_at) else {
+        return PacketRead::Refused(Refusal::CutItem, length_at);
+    };
+    if 256 < length {
+        return PacketRead::Refused(Refusal::HeaderLength, length_at);
+    }
+    match fields::strings::pass_octets(s, start, length) {
+        Passed::Next(next) => PacketRead::Found(
+            PacketData::Header(SampledHeader {
+                protocol,
+                frame_length,
+                header: Text { at: start, length },
+            }),
+            next,
+        ),
+        Passed::Refused(why, p) => PacketRead::Refused(why, p),
+    }
+}
+
+fn read_ipv4(s: &[u8], at: usize) -> PacketRead
+    ensures { λ r. ⌜ r ≡ asPacket (mapped ipv4Of (decode sampled-ipv4 (now (s .entry)) at)) ⌝ }
+{
+    let WordRead::Word(length, p1) = xdr::read_word(s, at) else {
+        return PacketRead::Refused(Refusal::CutItem, at);
+    };
+    let WordRead::Word(protocol, p2) = xdr::read_word(s, p1) else {
+        return PacketRead::Refused(Refusal::CutItem, p1);
+    };
+    let WordRead::Word(src_ip, p3) = xdr::read_word(s, p2) else {
+        return PacketRead::Refused(Refusal::CutItem, p2);
+    };
+    let WordRead::Word(dst_ip, p4) = xdr::read_word(s, p3) else {
+        return PacketRead::Refused(Refusal::CutItem, p3);
+    };
+    let WordRead::Word(src_port, p5) = xdr::read_word(s, p4) else {
+        return PacketRead::Refused(Refusal::CutItem, p4);
+    };
+    let WordRead::Word(dst_port, p6) = xdr::read_word(s, p5) else {
+        return PacketRead::Refused(Refusal::CutItem, p5);
+    };
+    let WordRead::Word(tcp_flags, p7) = xdr::read_word(s, p6) else {
+        return PacketRead::Refused(Refusal::CutItem, p6);
+    };
+    let WordRead::Word(tos, next) = xdr::read_word(s, p7) else {
+        return PacketRead::Refused(Refusal::CutItem, p7);
+    };
+    let data = SampledIpv4 {
+        length,
+        protocol,
+        src_ip,
+        dst_ip,
+        src_port,
+        dst_port,
+        tcp_flags,
+        tos,
+    };
+    PacketRead::Found(PacketData::Ipv4(data), next)
+}
+
+fn quad(a: u32, b: u32, c: u32, d: u32) -> Quad
+    ensures { λ r. ⌜ r ≡ quadOfWords a b c d ⌝ }
+{
+    Quad { a, b, c, d }
+}
+
+fn read_ipv6(s: &[u8], at: usize) -> PacketRead
+    ensures { λ r. ⌜ r ≡ asPacket (mapped ipv6Of (decode sampled-ipv6 (now (s .entry)) at)) ⌝ }
+{
+    let WordRead::Word(length, p1) = xdr::read_word(s, at) else {
+        return PacketRead::Refused(Refusal::CutItem, at);
+    };
+    let WordRead::Word(protocol, p2) = xdr::read_word(s, p1) else {
+        return PacketRead::Refused(Refusal::CutItem, p1);
+    };
+    let QuadRead::Quad(sa, sb, sc, sd, p3) = xdr::read_quad(s, p2) else {
+        return PacketRead::Refused(Refusal::CutItem, p2);
+    };
+    let QuadRead::Quad(da, db, dc, dd, p4) = xdr::read_quad(s, p3) else {
+        return PacketRead::Refused(Refusal::CutItem, p3);
+    };
+    let WordRead::Word(src_port, p5) = xdr::read_word(s, p4) else {
+        return PacketRead::Refused(Refusal::CutItem, p4);
+    };
+    let WordRead::Word(dst_port, p6) = xdr::read_word(s, p5) else {
+        return PacketRead::Refused(Refusal::CutItem, p5);
+    };
+    let WordRead::Word(tcp_flags, p7) = xdr::read_word(s, p6) else {
+        return PacketRead::Refused(Refusal::CutItem, p6);
+    };
+    let WordRead::Word(priority, next) = xdr::read_word(s, p7) else {
+        return PacketRead::Refused(Refusal::CutItem, p7);
+    };
+    let src_ip = quad(sa, sb, sc, sd);
+    let dst_ip = quad(da, db, dc, dd);
+    let data = SampledIpv6 {
+        length,
+        protocol,
+        src_ip,
+        dst_ip,
+        src_port,
+        dst_port,
+        tcp_flags,
+        priority,
+    };
+    PacketRead::Found(PacketData::Ipv6(data), next)
+}
+
+// Packet data at their type word.
+pub fn read_packet(s: &[u8], at: usize) -> PacketRead
+    ensures { λ r. ⌜ r ≡ asPacket (mapped (packetOf at) (decode packet-data-type (now (s .entry)) at)) ⌝ }
+{
+    let WordRead::Word(kind, next) = xdr::read_word(s, at) else {
+        return PacketRead::Refused(Refusal::CutItem, at);
+    };
+    if kind == 1 {
+        return read_header(s, next);
+    }
+    if kind == 2 {
+        return read_ipv4(s, next);
+    }
+    if kind == 3 {
+        return read_ipv6(s, next);
+    }
+    PacketRead::Refused(Refusal::PacketDataType, at)
+}

@@ -1,0 +1,7 @@
+pub mod Answers
+pub mod Flows
+pub mod CounterSamples
+pub mod SampleKinds
+pub mod Heads
+pub mod Wholes
+pub mod Walks

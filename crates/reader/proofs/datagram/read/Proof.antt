@@ -1,0 +1,60 @@
+use borrow.Author.Needs.{needs}
+use Rattle.reader.proofs.Wholes.{answer-head-refused, answer-samples-refused, answer-trailing, answer-whole}
+use mathlib.Core.Path.{sym, _∙_}
+use Rattle.reader.proofs.datagram.read.Statement.{statement}
+use Rattle.reader.proofs.datagram.read.Tie as tie
+
+-- src/datagram.rt:92:9
+read-head-requires : tie.Need-read-head-requires
+read-head-requires c κs = search needs
+
+-- src/datagram.rt:93:25
+enum-known-start : tie.Need-enum-known-start
+enum-known-start c = search needs
+
+-- src/datagram.rt:94:9
+enum-told : tie.Need-enum-told
+enum-told c = search needs
+
+-- src/datagram.rt:94:9
+returns : tie.Need-returns
+returns c = c .enum-told .given .1 ∙ sym (answer-head-refused _ _ _ (sym (c .before .before .read-head .ensures) ∙ c .enum-told .given .1))
+
+-- src/datagram.rt:96:11
+pass-samples-requires : tie.Need-pass-samples-requires
+pass-samples-requires c κs = search needs
+
+-- src/datagram.rt:97:25
+enum-known-why : tie.Need-enum-known-why
+enum-known-why c = search needs
+
+-- src/datagram.rt:98:22
+enum-known-end : tie.Need-enum-known-end
+enum-known-end c = search needs
+
+-- src/datagram.rt:100:17
+returns-2 : tie.Need-returns-2
+returns-2 c = sym (answer-trailing _ _ (sym (c .before .before .before .before .before .before .before .before .read-head .ensures) ∙ c .before .before .before .before .before .before .start .given .1) _ (sym (c .before .before .before .before .pass-samples .ensures) ∙ c .before .before .end .given .1) (c .if1 .taken))
+
+-- src/datagram.rt:89:1
+returns-3 : tie.Need-returns-3
+returns-3 c = sym (answer-samples-refused _ _ (sym (c .before .before .before .before .before .before .before .read-head .ensures) ∙ c .before .before .before .before .before .start .given .1) _ _ (sym (c .before .before .before .pass-samples .ensures) ∙ c .before .why .given .1))
+
+-- src/datagram.rt:89:1
+returns-4 : tie.Need-returns-4
+returns-4 c = sym (answer-whole _ _ (sym (c .before .before .before .before .before .before .before .before .read-head .ensures) ∙ c .before .before .before .before .before .before .start .given .1) _ (sym (c .before .before .before .before .pass-samples .ensures) ∙ c .before .before .end .given .1) (c .if1 .left))
+
+pub read-spec : {M : Type 1} → statement M
+read-spec =
+    tie.close
+    (tie.spec
+    read-head-requires
+    enum-known-start
+    enum-told
+    returns
+    pass-samples-requires
+    enum-known-why
+    enum-known-end
+    returns-2
+    returns-3
+    returns-4)

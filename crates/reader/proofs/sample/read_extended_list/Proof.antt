@@ -1,0 +1,57 @@
+use borrow.Author.Needs.{needs}
+use Rattle.reader.proofs.Flows.{list-found, list-refused}
+use Rattle.reader.specs.Samples.{asFlow}
+use Rattle.sflow.proofs.Steps.{list-cut}
+use mathlib.Core.Path.{sym, ap, _∙_}
+use Rattle.reader.proofs.sample.read_extended_list.Statement.{statement}
+use Rattle.reader.proofs.sample.read_extended_list.Tie as tie
+
+-- src/sample.rt:107:40
+read-word-requires : tie.Need-read-word-requires
+read-word-requires c κs = search needs
+
+-- src/sample.rt:107:24
+enum-known-count : tie.Need-enum-known-count
+enum-known-count c = search needs
+
+-- src/sample.rt:108:34
+enum-told : tie.Need-enum-told
+enum-told c = search needs
+
+-- src/sample.rt:108:9
+returns : tie.Need-returns
+returns c = sym (ap asFlow (list-cut _ _ _ _ _ (sym (c .before .before .read-word .ensures) ∙ c .enum-told .given .1)))
+
+-- src/sample.rt:110:11
+pass-extended-requires : tie.Need-pass-extended-requires
+pass-extended-requires c κs = search needs
+
+-- src/sample.rt:111:25
+enum-known-why : tie.Need-enum-known-why
+enum-known-why c = search needs
+
+-- src/sample.rt:112:22
+enum-known-next : tie.Need-enum-known-next
+enum-known-next c = search needs
+
+-- src/sample.rt:104:1
+returns-2 : tie.Need-returns-2
+returns-2 c = sym (ap asFlow (list-refused _ _ _ _ _ _ _ _ (sym (c .before .before .before .before .before .before .before .read-word .ensures) ∙ c .before .before .before .before .before .count .given .1) (sym (c .before .before .before .pass-extended .ensures) ∙ c .before .why .given .1)))
+
+-- src/sample.rt:104:1
+returns-3 : tie.Need-returns-3
+returns-3 c = sym (ap asFlow (list-found _ _ _ _ _ _ _ (sym (c .before .before .before .before .before .before .before .read-word .ensures) ∙ c .before .before .before .before .before .count .given .1) (sym (c .before .before .before .pass-extended .ensures) ∙ c .before .next .given .1)))
+
+pub read-extended-list-spec : {M : Type 1} → statement M
+read-extended-list-spec =
+    tie.close
+    (tie.spec
+    read-word-requires
+    enum-known-count
+    enum-told
+    returns
+    pass-extended-requires
+    enum-known-why
+    enum-known-next
+    returns-2
+    returns-3)
