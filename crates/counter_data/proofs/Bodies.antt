@@ -1,23 +1,29 @@
 -- What passing over counters finds, by what the reads of their items answer. Assumes nothing.
-use Prim.Native.Nat.{ℕ, zero, suc, _≤_, _<_}
+use Prim.Native.Nat.{ℕ, zero, suc, _+_, _-_, _≤_, _<_}
 use native.Mathlib.Omega.{arith}
 use mathlib.Core.Path.{_≡_, refl, sym, ap, _∙_}
 use mathlib.Core.Logic.{_⊎_, inl, inr, ⊎-elim}
 use mathlib.Core.List.{List, []}
-use mathlib.Core.Bool.{true, false}
-use borrow.Author.Tests.{ne-eqb}
-use Rattle.xdr.specs.Items.{wordAt, itemsAt, runAt, sum}
+use mathlib.Core.Bool.{Bool, true, false}
+use lib.ListN.{length}
+use lib.Dec.{leb}
+use borrow.Author.Tests.{ne-eqb, le-leb, lt-leb, leb-true, leb-false}
+use Rattle.xdr.specs.Items.{wordAt, runAt, sum}
 use Rattle.xdr.specs.declared.WordRead.the-variants.{Word, CutWord}
-use Rattle.xdr.specs.declared.RunRead.{RunRead}
-use Rattle.xdr.specs.declared.RunRead.the-variants.{Run, CutRun}
 use Rattle.xdr.proofs.Reading.{word-read}
-use Rattle.xdr.proofs.Runs.{run-items}
+use Rattle.xdr.proofs.Runs.{run-whole}
+use Rattle.sflow.specs.declared.Refusal.{Refusal}
 use Rattle.sflow.specs.declared.Refusal.the-variants.{CutItem, CountersVersion}
 use Rattle.sflow.specs.Grammar.{Form, fixed, listed, chosen}
 use Rattle.sflow.specs.Decode.{found, refused, mapped, decode}
 use Rattle.sflow.specs.Datagram.{counters-versions, counters-type}
-use Rattle.sflow.proofs.Steps.{union-arm, union-bad, union-cut}
-use Rattle.counter_data.specs.CounterBodies.{counterBodyOf, placeOf}
+use Rattle.sflow.proofs.Steps.{union-arm, union-bad, union-cut, fixed-end}
+use Rattle.fields.specs.declared.strings.Passed.{Passed}
+use Rattle.fields.specs.declared.strings.Passed.the-variants.{Next, Refused}
+use Rattle.fields.specs.Parts.{asPassed, asRun}
+use Rattle.fields.proofs.Passing.{passed-next, passed-refused, passed-alike}
+use Rattle.fields.proofs.Forms.{passed-run}
+use Rattle.counter_data.specs.CounterBodies.{counterBodyOf}
 
 -- ---- versions
 
@@ -68,17 +74,41 @@ version-over v h =
     not-listed v (⊎-elim (λ e. omega arith) (⊎-elim (λ e. omega arith) (λ e. omega arith)))
     (λ e. omega arith) (λ e. omega arith) (λ e. omega arith) (λ e. omega arith)
 
+-- ---- octets that are there
+
+-- no octets behind the last, of which there are n
+pub none-there : (n at count : ℕ) → n < at → false ≡ leb (at + count) n
+none-there n at count h = let short : n < at + count = omega arith in sym (lt-leb (at + count) n short)
+
+-- at most as many as are left
+pub left-there : (n at count : ℕ) → at ≤ n → leb count (n - at) ≡ leb (at + count) n
+left-there n at count h = go (leb count (n - at)) refl
+  where
+    go : (b : Bool) → leb count (n - at) ≡ b → b ≡ leb (at + count) n
+    go true e =
+        let k : count ≤ n - at = leb-true count (n - at) e in
+        let room : at + count ≤ n = omega arith in
+        sym (le-leb (at + count) n room)
+    go false e =
+        let k : n - at < count = leb-false count (n - at) e in
+        let short : n < at + count = omega arith in
+        sym (lt-leb (at + count) n short)
+
 -- ---- runs
 
+-- the octets of the counters of the version n are those of the version v, which is n
+pub size-of : (v n : ℕ) → v ≡ n → sum (widthsOf n) ≡ sum (widthsOf v)
+size-of v n e = ap (λ (m : ℕ). sum (widthsOf m)) (sym e)
+
 -- a run of the widths of the version n passes over the counters of the version v, which is n
-pub body-run : (s : List ℕ) (at total v n : ℕ) (r : RunRead) → v ≡ n → total ≡ sum (widthsOf n) → r ≡ runAt s at total (widthsOf n)
-    → r ≡ itemsAt s at (widthsOf v)
-body-run s at total v n r e t f = f ∙ run-items s at total (widthsOf n) t ∙ ap (λ (m : ℕ). itemsAt s at (widthsOf m)) (sym e)
+pub body-run : (s : List ℕ) (at size v n : ℕ) (r : Passed) → v ≡ n → size ≡ sum (widthsOf v) → r ≡ asRun (runAt s at size (widthsOf n))
+    → r ≡ asPassed (decode (formOf v) s at)
+body-run s at size v n r e t f =
+    sym (passed-run s at size (widthsOf v) r t (ap (λ (m : ℕ). asRun (runAt s at size (widthsOf m))) e ∙ sym f))
 
 -- no counters, nothing to pass over
-pub body-none : (s : List ℕ) (at : ℕ) (ws : List ℕ) → ws ≡ [] → Run at ≡ itemsAt s at ws
-unfolding itemsAt
-body-none s at ws e = rw e
+pub body-none : (s : List ℕ) (at : ℕ) (ws : List ℕ) → ws ≡ [] → Next at ≡ asPassed (decode (fixed ws) s at)
+body-none s at ws e = rw (e, fixed-end)
 
 -- ---- counters
 
@@ -91,19 +121,29 @@ pub body-bad : (s : List ℕ) (at v first : ℕ) → wordAt s at ≡ Word v firs
     → mapped (counterBodyOf at) (decode counters-type s at) ≡ refused CountersVersion at
 body-bad s at v first e h = union-bad _ _ _ s at (counterBodyOf at) v first e h
 
--- counters that are all there
-pub body-found : (s : List ℕ) (at v first next : ℕ) → wordAt s at ≡ Word v first → listed counters-versions v ≡ true
-    → itemsAt s first (widthsOf v) ≡ Run next
-    → mapped (counterBodyOf at) (decode counters-type s at) ≡ found (record { version = v; at = first }) next
-unfolding decode
-body-found s at v first next e h f =
-    union-arm CountersVersion (listed counters-versions) formOf s at (counterBodyOf at) v first e h
-    ∙ rw (f, word-read s at v first e .next-is)
+module _ (s : List ℕ) (at v first : ℕ) (e : wordAt s at ≡ Word v first) (h : listed counters-versions v ≡ true) where
+  -- behind the version
+  body-arm : mapped (counterBodyOf at) (decode counters-type s at) ≡ mapped (λ vs. counterBodyOf at (v, vs)) (decode (formOf v) s first)
+  body-arm = union-arm CountersVersion (listed counters-versions) formOf s at (counterBodyOf at) v first e h
 
--- counters that are cut short
-pub body-short : (s : List ℕ) (at v first : ℕ) (r : RunRead) (p : ℕ) → wordAt s at ≡ Word v first → listed counters-versions v ≡ true
-    → r ≡ itemsAt s first (widthsOf v) → r ≡ CutRun p
-    → mapped (counterBodyOf at) (decode counters-type s at) ≡ refused CutItem (placeOf r)
-unfolding decode
-body-short s at v first r p e h f g =
-    union-arm CountersVersion (listed counters-versions) formOf s at (counterBodyOf at) v first e h ∙ rw (← f, g)
+  -- the counters are left to pass over
+  pub body-passed : asPassed (decode counters-type s at) ≡ asPassed (decode (formOf v) s first)
+  body-passed = passed-alike (counterBodyOf at) (decode counters-type s at) (λ vs. counterBodyOf at (v, vs)) (decode (formOf v) s first) body-arm
+
+  -- counters whose octets are all there
+  pub body-there : (size : ℕ) → size ≡ sum (widthsOf v) → leb (first + size) (length s) ≡ true
+      → asPassed (decode (formOf v) s first) ≡ Next (first + size)
+  body-there size t k =
+      passed-run s first size (widthsOf v) (Next (first + size)) t (ap asRun (run-whole s first size (widthsOf v) (leb-true (first + size) (length s) k)))
+
+  -- counters that are all there
+  pub body-found : (next : ℕ) → asPassed (decode (formOf v) s first) ≡ Next next
+      → mapped (counterBodyOf at) (decode counters-type s at) ≡ found (record { version = v; at = first }) next
+  body-found next f =
+      let r = passed-next (decode (formOf v) s first) next f in
+      body-arm ∙ rw (r .1, word-read s at v first e .next-is)
+
+  -- counters that are cut short
+  pub body-refused : (why : Refusal) (p : ℕ) → asPassed (decode (formOf v) s first) ≡ Refused why p
+      → mapped (counterBodyOf at) (decode counters-type s at) ≡ refused why p
+  body-refused why p f = body-arm ∙ rw (passed-refused (decode (formOf v) s first) why p f)

@@ -9,8 +9,6 @@ use Rattle.xdr.specs.declared.WordRead.{WordRead}
 use Rattle.xdr.specs.declared.WordRead.the-variants.{Word, CutWord}
 use Rattle.xdr.specs.declared.HyperRead.{HyperRead}
 use Rattle.xdr.specs.declared.HyperRead.the-variants.{Hyper, CutHyper}
-use Rattle.xdr.specs.declared.RunRead.{RunRead}
-use Rattle.xdr.specs.declared.RunRead.the-variants.{Run, CutRun}
 use Rattle.sflow.specs.declared.Refusal.{Refusal}
 use Rattle.sflow.specs.Grammar.{Value}
 use Rattle.sflow.specs.Decode.{Decoded, found, refused}
@@ -27,11 +25,6 @@ counterBodyOf at v = record { version = v .0; at = at + 4 }
 abbrev pub asCounterBody : Decoded CounterBody → CounterBodyRead
 asCounterBody (found v next) = Found v next
 asCounterBody (refused why p) = Refused why p
-
--- the offset that a run gives
-abbrev pub placeOf : RunRead → ℕ
-placeOf (Run next) = next
-placeOf (CutRun p) = p
 
 -- ---- every counter as a number
 

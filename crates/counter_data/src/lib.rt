@@ -1,18 +1,19 @@
 // Counters of a counter sample.
+use fields::strings::Passed;
 use sflow::Refusal;
 use xdr::HyperRead;
-use xdr::RunRead;
 use xdr::WordRead;
 ghost use mathlib.Core.Path.{_≡_};
 ghost use mathlib.Core.List.{[]};
-ghost use Prim.Native.Nat.{_≤_};
-ghost use lib.Dec.{T};
+ghost use Prim.Native.Nat.{_+_, _≤_};
+ghost use lib.Dec.{T, leb};
 ghost use lib.ListN.{length};
-ghost use Rattle.xdr.specs.Items.{itemsAt};
+ghost use Rattle.xdr.specs.Items.{sum};
 ghost use Rattle.sflow.specs.Grammar.{fixed, chosen};
 ghost use Rattle.sflow.specs.Decode.{decode, mapped};
 ghost use Rattle.sflow.specs.Datagram.{counters-versions, counters-type};
-ghost use Rattle.counter_data.specs.CounterBodies.{counterBodyOf, asCounterBody, placeOf, ofVersion, counterValuesOf, noValues, counterAt, wordsAndHypers};
+ghost use Rattle.fields.specs.Parts.{asPassed};
+ghost use Rattle.counter_data.specs.CounterBodies.{counterBodyOf, asCounterBody, ofVersion, counterValuesOf, noValues, counterAt, wordsAndHypers};
 
 // A counters version, 1 to 7, and the offset of the first counter.
 pub struct CounterBody {
@@ -26,41 +27,56 @@ pub enum CounterBodyRead {
 }
 
 // The widths of the counters of each version; FDDI and WAN counters are those of every interface.
-const IF_WIDTHS: [u8; 19] =
+pub const IF_WIDTHS: [u8; 19] =
     *b"\x04\x04\x08\x04\x04\x08\x04\x04\x04\x04\x04\x04\x08\x04\x04\x04\x04\x04\x04";
 
-const ETHERNET_WIDTHS: [u8; 32] =
+pub const ETHERNET_WIDTHS: [u8; 32] =
     *b"\x04\x04\x08\x04\x04\x08\x04\x04\x04\x04\x04\x04\x08\x04\x04\x04\x04\x04\x04\x04\x04\x04\x04\x04\x04\x04\x04\x04\x04\x04\x04\x04";
 
-const TOKENRING_WIDTHS: [u8; 37] =
+pub const TOKENRING_WIDTHS: [u8; 37] =
     *b"\x04\x04\x08\x04\x04\x08\x04\x04\x04\x04\x04\x04\x08\x04\x04\x04\x04\x04\x04\x04\x04\x04\x04\x04\x04\x04\x04\x04\x04\x04\x04\x04\x04\x04\x04\x04\x04";
 
-const VG_WIDTHS: [u8; 33] =
+pub const VG_WIDTHS: [u8; 33] =
     *b"\x04\x04\x08\x04\x04\x08\x04\x04\x04\x04\x04\x04\x08\x04\x04\x04\x04\x04\x04\x04\x08\x04\x08\x04\x04\x04\x04\x04\x08\x04\x08\x08\x08";
 
-const VLAN_WIDTHS: [u8; 6] = *b"\x04\x08\x04\x04\x04\x04";
+pub const VLAN_WIDTHS: [u8; 6] = *b"\x04\x08\x04\x04\x04\x04";
 
-// Whether the octets of a version's counters are all there.
-fn pass_body(s: &[u8], at: usize, version: u32) -> RunRead
-    ensures { λ r. ⌜ r ≡ itemsAt (now (s .entry)) at (chosen [] counters-versions version) ⌝ }
+// How many octets the counters of a version take: none where it is no version.
+fn body_size(version: u32) -> usize
+    ensures { λ r. ⌜ r ≡ sum (chosen [] counters-versions version) ⌝ }
 {
     match version {
-        1 | 4 | 6 => xdr::read_run(s, at, 88, &IF_WIDTHS),
-        2 => xdr::read_run(s, at, 140, &ETHERNET_WIDTHS),
-        3 => xdr::read_run(s, at, 160, &TOKENRING_WIDTHS),
-        5 => xdr::read_run(s, at, 168, &VG_WIDTHS),
-        7 => xdr::read_run(s, at, 28, &VLAN_WIDTHS),
-        _ => RunRead::Run(at),
+        1 | 4 | 6 => 88,
+        2 => 140,
+        3 => 160,
+        5 => 168,
+        7 => 28,
+        _ => 0,
     }
 }
 
-// The offset that a run gives.
-fn place_of(run: RunRead) -> usize
-    ensures { λ r. ⌜ r ≡ placeOf run ⌝ }
+// Whether so many octets are there from an offset on.
+fn are_there(s: &[u8], at: usize, count: usize) -> bool
+    ensures { λ r. ⌜ r ≡ leb (at + count) (length (now (s .entry))) ⌝ }
 {
-    match run {
-        RunRead::Run(next) => next,
-        RunRead::CutRun(p) => p,
+    if s.len() < at {
+        return false;
+    }
+    count <= s.len() - at
+}
+
+// The counters of a version by their widths, for the place where they are cut short.
+fn pass_each(s: &[u8], at: usize, version: u32, size: usize) -> Passed
+    requires { ⌜ size ≡ sum (chosen [] counters-versions version) ⌝ }
+    ensures { λ r. ⌜ r ≡ asPassed (decode (fixed (chosen [] counters-versions version)) (now (s .entry)) at) ⌝ }
+{
+    match version {
+        1 | 4 | 6 => fields::runs::pass_run(s, at, size, &IF_WIDTHS),
+        2 => fields::runs::pass_run(s, at, size, &ETHERNET_WIDTHS),
+        3 => fields::runs::pass_run(s, at, size, &TOKENRING_WIDTHS),
+        5 => fields::runs::pass_run(s, at, size, &VG_WIDTHS),
+        7 => fields::runs::pass_run(s, at, size, &VLAN_WIDTHS),
+        _ => Passed::Next(at),
     }
 }
 
@@ -77,11 +93,34 @@ pub fn read_counter_body(s: &[u8], at: usize) -> CounterBodyRead
     if 7 < version {
         return CounterBodyRead::Refused(Refusal::CountersVersion, at);
     }
-    let run = pass_body(s, first, version);
-    let RunRead::Run(next) = run else {
-        return CounterBodyRead::Refused(Refusal::CutItem, place_of(run));
+    let size = body_size(version);
+    if are_there(s, first, size) {
+        return CounterBodyRead::Found(CounterBody { version, at: first }, first + size);
+    }
+    match pass_each(s, first, version, size) {
+        Passed::Next(next) => CounterBodyRead::Found(CounterBody { version, at: first }, next),
+        Passed::Refused(why, p) => CounterBodyRead::Refused(why, p),
+    }
+}
+
+// Counters at their version word that are not handed out.
+pub fn pass_counters(s: &[u8], at: usize) -> Passed
+    ensures { λ r. ⌜ r ≡ asPassed (decode counters-type (now (s .entry)) at) ⌝ }
+{
+    let WordRead::Word(version, first) = xdr::read_word(s, at) else {
+        return Passed::Refused(Refusal::CutItem, at);
     };
-    CounterBodyRead::Found(CounterBody { version, at: first }, next)
+    if version < 1 {
+        return Passed::Refused(Refusal::CountersVersion, at);
+    }
+    if 7 < version {
+        return Passed::Refused(Refusal::CountersVersion, at);
+    }
+    let size = body_size(version);
+    if are_there(s, first, size) {
+        return Passed::Next(first + size);
+    }
+    pass_each(s, first, version, size)
 }
 
 // How many counters were found, of which version.

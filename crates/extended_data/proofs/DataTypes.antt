@@ -1,6 +1,6 @@
 -- What reading extended data finds, by its type. Assumes nothing.
 use Prim.Native.Nat.{ℕ, _+_}
-use mathlib.Core.Path.{_≡_, refl, sym, ap, _∙_}
+use mathlib.Core.Path.{_≡_, refl, ap, _∙_}
 use mathlib.Core.Bool.{false, _||_}
 use mathlib.Core.List.{List}
 use lib.Dec.{eqb}
@@ -12,11 +12,7 @@ use Rattle.sflow.specs.declared.Refusal.the-variants.{ExtendedDataType}
 use Rattle.sflow.specs.Decode.{refused, mapped, decode}
 use Rattle.sflow.specs.Datagram.{extended-switch, extended-router, extended-gateway, extended-user, extended-url, extended-data-type}
 use Rattle.sflow.proofs.Steps.{union-arm, union-bad}
-use Rattle.extended_data.specs.declared.ExtendedRead.{ExtendedRead}
-use Rattle.fields.specs.Parts.{asPassed}
-use Rattle.extended_data.specs.ExtendedData.{switchOf, routerOf, gatewayOf, userOf, urlOf, extendedOf, asExtended}
-use Rattle.fields.proofs.Passing.{passed-mapped}
-use Rattle.extended_data.proofs.Answers.{ofExtended, extended-told}
+use Rattle.extended_data.specs.ExtendedData.{switchOf, routerOf, gatewayOf, userOf, urlOf, extendedOf}
 
 module _ (s : List ℕ) (at kind next : ℕ) (e : wordAt s at ≡ Word kind next) where
   -- the type word, of a type that is known
@@ -54,9 +50,3 @@ module _ (s : List ℕ) (at kind next : ℕ) (e : wordAt s at ≡ Word kind next
       let t : (eqb kind 1 || (eqb kind 2 || (eqb kind 3 || (eqb kind 4 || (eqb kind 5 || false))))) ≡ false =
       rw (ne-eqb kind 1 f1, ne-eqb kind 2 f2, ne-eqb kind 3 f3, ne-eqb kind 4 f4, ne-eqb kind 5 f5) in
       union-bad _ _ _ s at (extendedOf at) kind next e t
-
--- the answer about extended data says where it ends
-pub extended-passed : (s : List ℕ) (at : ℕ) (r : ExtendedRead) → asExtended (mapped (extendedOf at) (decode extended-data-type s at)) ≡ r
-    → asPassed (ofExtended r) ≡ asPassed (decode extended-data-type s at)
-extended-passed s at r e =
-    sym (ap asPassed (extended-told (mapped (extendedOf at) (decode extended-data-type s at)) r e)) ∙ passed-mapped (extendedOf at) (decode extended-data-type s at)

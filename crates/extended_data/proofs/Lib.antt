@@ -1,4 +1,3 @@
-pub mod Answers
 pub mod Switches
 pub mod Routers
 pub mod Segments

@@ -1,7 +1,7 @@
 -- What reading a path segment finds, once its type was read. Assumes nothing.
 use Prim.Native.Nat.{ℕ, _+_, _≤_}
 use native.Mathlib.Omega.{arith}
-use mathlib.Core.Path.{_≡_, sym, ap, _∙_}
+use mathlib.Core.Path.{_≡_, _∙_}
 use mathlib.Core.List.{List}
 use Rattle.xdr.specs.Items.{wordAt}
 use Rattle.xdr.specs.declared.WordRead.the-variants.{Word, CutWord}
@@ -15,11 +15,8 @@ use Rattle.sflow.proofs.Steps.{list-cut}
 use Rattle.fields.specs.declared.strings.Passed.the-variants.{Next, Refused}
 use Rattle.fields.specs.declared.words.Entries.{Entries}
 use Rattle.extended_data.specs.declared.Segment.{Segment}
-use Rattle.extended_data.specs.declared.SegmentRead.{SegmentRead}
 use Rattle.fields.specs.Parts.{entriesAt, asPassed}
-use Rattle.extended_data.specs.ExtendedData.{segmentOf, asSegment}
-use Rattle.fields.proofs.Passing.{passed-mapped}
-use Rattle.extended_data.proofs.Answers.{ofSegment, segment-told}
+use Rattle.extended_data.specs.ExtendedData.{segmentOf}
 use Rattle.fields.proofs.Compounds.{mapped-again, list-seen, list-unseen, enumeration-in}
 
 -- a segment of a type and its numbers
@@ -49,9 +46,3 @@ module _ (s : List ℕ) (at kind start : ℕ) (e : wordAt s at ≡ Word kind sta
     segment-found next h =
         segment-numbers ∙ mapped-again (segmentWith kind) (entriesAt (start + 4)) (decode (list word) s start)
         ∙ rw (list-seen word s start n first f next h)
-
--- the answer about a segment says where it ends
-pub segment-passed : (s : List ℕ) (at : ℕ) (r : SegmentRead) → asSegment (mapped (segmentOf at) (decode as-path-type s at)) ≡ r
-    → asPassed (ofSegment r) ≡ asPassed (decode as-path-type s at)
-segment-passed s at r e =
-    sym (ap asPassed (segment-told (mapped (segmentOf at) (decode as-path-type s at)) r e)) ∙ passed-mapped (segmentOf at) (decode as-path-type s at)

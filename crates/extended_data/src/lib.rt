@@ -159,17 +159,31 @@ pub fn read_segment(s: &[u8], at: usize) -> SegmentRead
     }
 }
 
+// A path segment whose numbers are not handed out.
 fn pass_segment(s: &[u8], at: usize) -> Passed
     ensures { λ r. ⌜ r ≡ asPassed (decode as-path-type (now (s .entry)) at) ⌝ }
 {
-    match read_segment(s, at) {
-        SegmentRead::Found(_, next) => Passed::Next(next),
-        SegmentRead::Refused(why, p) => Passed::Refused(why, p),
+    let WordRead::Word(kind, count_at) = xdr::read_word(s, at) else {
+        return Passed::Refused(Refusal::CutItem, at);
+    };
+    match kind {
+        1 | 2 => pass_numbers(s, count_at),
+        _ => Passed::Refused(Refusal::SegmentType, at),
     }
 }
 
+// A list of words.
+fn pass_numbers(s: &[u8], at: usize) -> Passed
+    ensures { λ r. ⌜ r ≡ asPassed (decode (list word) (now (s .entry)) at) ⌝ }
+{
+    let WordRead::Word(count, first) = xdr::read_word(s, at) else {
+        return Passed::Refused(Refusal::CutItem, at);
+    };
+    fields::words::pass_words(s, first, count)
+}
+
 // So many path segments.
-fn pass_segments(s: &[u8], first: usize, count: u32) -> Passed
+pub fn pass_segments(s: &[u8], first: usize, count: u32) -> Passed
     ensures { λ r. ⌜ r ≡ asPassed (entries (decode as-path-type (now (s .entry))) count first) ⌝ }
 {
     let mut at = first;
@@ -305,12 +319,73 @@ pub fn read_extended(s: &[u8], at: usize) -> ExtendedRead
     ExtendedRead::Refused(Refusal::ExtendedDataType, at)
 }
 
+fn pass_router(s: &[u8], at: usize) -> Passed
+    ensures { λ r. ⌜ r ≡ asPassed (decode extended-router (now (s .entry)) at) ⌝ }
+{
+    let nexthop = fields::address::pass_address(s, at);
+    let Passed::Next(masks_at) = nexthop else {
+        return nexthop;
+    };
+    fields::runs::pass_run(s, masks_at, 8, b"\x04\x04")
+}
+
+fn pass_gateway(s: &[u8], at: usize) -> Passed
+    ensures { λ r. ⌜ r ≡ asPassed (decode extended-gateway (now (s .entry)) at) ⌝ }
+{
+    let words = fields::runs::pass_run(s, at, 12, b"\x04\x04\x04");
+    let Passed::Next(path_at) = words else {
+        return words;
+    };
+    let WordRead::Word(count, first) = xdr::read_word(s, path_at) else {
+        return Passed::Refused(Refusal::CutItem, path_at);
+    };
+    let path = pass_segments(s, first, count);
+    let Passed::Next(communities_at) = path else {
+        return path;
+    };
+    let communities = pass_numbers(s, communities_at);
+    let Passed::Next(end) = communities else {
+        return communities;
+    };
+    fields::runs::pass_run(s, end, 4, b"\x04")
+}
+
+fn pass_user(s: &[u8], at: usize) -> Passed
+    ensures { λ r. ⌜ r ≡ asPassed (decode extended-user (now (s .entry)) at) ⌝ }
+{
+    let src_user = fields::strings::pass_string(s, at);
+    let Passed::Next(second) = src_user else {
+        return src_user;
+    };
+    fields::strings::pass_string(s, second)
+}
+
+fn pass_url(s: &[u8], at: usize) -> Passed
+    ensures { λ r. ⌜ r ≡ asPassed (decode extended-url (now (s .entry)) at) ⌝ }
+{
+    let WordRead::Word(direction, start) = xdr::read_word(s, at) else {
+        return Passed::Refused(Refusal::CutItem, at);
+    };
+    match direction {
+        1 | 2 => fields::strings::pass_string(s, start),
+        _ => Passed::Refused(Refusal::UrlDirection, at),
+    }
+}
+
+// An extended entry at its type word that is not handed out.
 fn pass_entry(s: &[u8], at: usize) -> Passed
     ensures { λ r. ⌜ r ≡ asPassed (decode extended-data-type (now (s .entry)) at) ⌝ }
 {
-    match read_extended(s, at) {
-        ExtendedRead::Found(_, next) => Passed::Next(next),
-        ExtendedRead::Refused(why, p) => Passed::Refused(why, p),
+    let WordRead::Word(kind, next) = xdr::read_word(s, at) else {
+        return Passed::Refused(Refusal::CutItem, at);
+    };
+    match kind {
+        1 => fields::runs::pass_run(s, next, 16, b"\x04\x04\x04\x04"),
+        2 => pass_router(s, next),
+        3 => pass_gateway(s, next),
+        4 => pass_user(s, next),
+        5 => pass_url(s, next),
+        _ => Passed::Refused(Refusal::ExtendedDataType, at),
     }
 }
 

@@ -3,4 +3,5 @@ pub mod Texts
 pub mod Passing
 pub mod FixedItems
 pub mod Compounds
+pub mod Forms
 pub mod Answers

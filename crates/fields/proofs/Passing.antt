@@ -30,6 +30,14 @@ pub passed-mapped : {A B : Type 0} (f : A → B) (d : Decoded A) → asPassed (m
 passed-mapped f (found v next) = refl
 passed-mapped f (refused why p) = refl
 
+-- what a view shows says where it ends
+pub passed-seen : {A B : Type 0} (f : A → B) (d : Decoded A) (e : Decoded B) → mapped f d ≡ e → asPassed d ≡ asPassed e
+passed-seen f d e h = sym (passed-mapped f d) ∙ ap asPassed h
+
+-- two of which views show the same end alike
+pub passed-alike : {A B C : Type 0} (f : A → C) (d : Decoded A) (g : B → C) (e : Decoded B) → mapped f d ≡ mapped g e → asPassed d ≡ asPassed e
+passed-alike f d g e h = passed-seen f d (mapped g e) h ∙ passed-mapped g e
+
 -- ---- entries
 
 pub passed-end : {A : Type 0} (f : ℕ → Decoded A) (n at : ℕ) → n ≤ 0 → asPassed (entries f n at) ≡ Next at

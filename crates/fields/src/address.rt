@@ -1,10 +1,12 @@
 // Addresses of agents and of next hops.
+use crate::strings::Passed;
 use sflow::Refusal;
 use xdr::QuadRead;
 use xdr::WordRead;
 ghost use mathlib.Core.Path.{_≡_};
 ghost use Rattle.sflow.specs.Decode.{decode, mapped};
 ghost use Rattle.sflow.specs.Datagram.{address};
+ghost use Rattle.fields.specs.Parts.{asPassed};
 ghost use Rattle.fields.specs.Addresses.{addressOf, asAddress};
 
 // Sixteen octets as four words.
@@ -62,4 +64,18 @@ pub fn read_address(s: &[u8], at: usize) -> AddressRead
         );
     }
     AddressRead::Refused(Refusal::AddressType, at)
+}
+
+// An address whose octets are not handed out.
+pub fn pass_address(s: &[u8], at: usize) -> Passed
+    ensures { λ r. ⌜ r ≡ asPassed (decode address (now (s .entry)) at) ⌝ }
+{
+    let WordRead::Word(kind, place) = xdr::read_word(s, at) else {
+        return Passed::Refused(Refusal::CutItem, at);
+    };
+    match kind {
+        1 => crate::runs::pass_run(s, place, 4, b"\x04"),
+        2 => crate::runs::pass_run(s, place, 16, b"\x10"),
+        _ => Passed::Refused(Refusal::AddressType, at),
+    }
 }

@@ -50,3 +50,13 @@ pub fn read_string(s: &[u8], at: usize) -> StringRead
         Passed::Refused(why, p) => StringRead::Refused(why, p),
     }
 }
+
+// A string that is not handed out.
+pub fn pass_string(s: &[u8], at: usize) -> Passed
+    ensures { λ r. ⌜ r ≡ asPassed (decode (opaque none) (now (s .entry)) at) ⌝ }
+{
+    let WordRead::Word(length, start) = xdr::read_word(s, at) else {
+        return Passed::Refused(Refusal::CutItem, at);
+    };
+    pass_octets(s, start, length)
+}

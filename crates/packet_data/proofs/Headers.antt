@@ -20,7 +20,7 @@ use Rattle.fields.specs.declared.strings.Passed.the-variants.{Next, Refused}
 use Rattle.packet_data.specs.declared.PacketData.the-variants.{Header}
 use Rattle.fields.specs.Parts.{asPassed}
 use Rattle.packet_data.specs.Packets.{headerOf}
-use Rattle.fields.proofs.Passing.{passed-refused}
+use Rattle.fields.proofs.Passing.{passed-refused, passed-alike}
 use Rattle.fields.proofs.Texts.{octets-found}
 
 -- the header's octets with their length word
@@ -90,3 +90,10 @@ module _ (s : List ℕ) (at v frame : ℕ) (e : wordAt s at ≡ Word v frame) (l
         → mapped (headerOf at) (decode sampled-header s at) ≡ refused why p
     header-refused m start why p g k q =
         header-octets ∙ rw (limited-word 256 HeaderLength s place m start g k, passed-refused (stringItem (take m (drop start s)) (paddedAt s start m)) why p q)
+
+    -- the octets are left to pass over
+    pub header-passed : (m start : ℕ) → wordAt s place ≡ Word m start → m ≤ 256
+        → asPassed (decode sampled-header s at) ≡ asPassed (stringItem (take m (drop start s)) (paddedAt s start m))
+    header-passed m start g k =
+        passed-alike (headerOf at) (decode sampled-header s at) (λ xs. headerOf at (v, (n ∷ [], xs))) (stringItem (take m (drop start s)) (paddedAt s start m))
+        (header-octets ∙ rw (limited-word 256 HeaderLength s place m start g k))

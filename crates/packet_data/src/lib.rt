@@ -8,6 +8,7 @@ use xdr::WordRead;
 ghost use mathlib.Core.Path.{_≡_};
 ghost use Rattle.sflow.specs.Decode.{decode, mapped};
 ghost use Rattle.sflow.specs.Datagram.{sampled-header, sampled-ipv4, sampled-ipv6, packet-data-type};
+ghost use Rattle.fields.specs.Parts.{asPassed};
 ghost use Rattle.packet_data.specs.Packets.{quadOfWords, headerOf, ipv4Of, ipv6Of, packetOf, asPacket};
 
 pub struct SampledHeader {
@@ -188,4 +189,43 @@ pub fn read_packet(s: &[u8], at: usize) -> PacketRead
         return read_ipv6(s, next);
     }
     PacketRead::Refused(Refusal::PacketDataType, at)
+}
+
+fn pass_header(s: &[u8], at: usize) -> Passed
+    ensures { λ r. ⌜ r ≡ asPassed (decode sampled-header (now (s .entry)) at) ⌝ }
+{
+    let WordRead::Word(protocol, frame_at) = xdr::read_word(s, at) else {
+        return Passed::Refused(Refusal::CutItem, at);
+    };
+    if protocol < 1 {
+        return Passed::Refused(Refusal::HeaderProtocol, at);
+    }
+    if 13 < protocol {
+        return Passed::Refused(Refusal::HeaderProtocol, at);
+    }
+    let WordRead::Word(_, length_at) = xdr::read_word(s, frame_at) else {
+        return Passed::Refused(Refusal::CutItem, frame_at);
+    };
+    let WordRead::Word(length, start) = xdr::read_word(s, length_at) else {
+        return Passed::Refused(Refusal::CutItem, length_at);
+    };
+    if length <= 256 {
+        return fields::strings::pass_octets(s, start, length);
+    }
+    Passed::Refused(Refusal::HeaderLength, length_at)
+}
+
+// Packet data at their type word that are not handed out.
+pub fn pass_packet(s: &[u8], at: usize) -> Passed
+    ensures { λ r. ⌜ r ≡ asPassed (decode packet-data-type (now (s .entry)) at) ⌝ }
+{
+    let WordRead::Word(kind, next) = xdr::read_word(s, at) else {
+        return Passed::Refused(Refusal::CutItem, at);
+    };
+    match kind {
+        1 => pass_header(s, next),
+        2 => fields::runs::pass_run(s, next, 32, b"\x04\x04\x04\x04\x04\x04\x04\x04"),
+        3 => fields::runs::pass_run(s, next, 56, b"\x04\x04\x10\x10\x04\x04\x04\x04"),
+        _ => Passed::Refused(Refusal::PacketDataType, at),
+    }
 }

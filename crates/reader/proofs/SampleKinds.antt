@@ -1,7 +1,7 @@
 -- What reading a sample finds, by its kind. Assumes nothing.
 use Prim.Native.Nat.{ℕ, _≤_}
 use native.Mathlib.Omega.{arith}
-use mathlib.Core.Path.{_≡_, refl, sym, ap, _∙_}
+use mathlib.Core.Path.{_≡_, refl, ap, _∙_}
 use mathlib.Core.Bool.{false, _||_}
 use mathlib.Core.List.{List}
 use lib.Dec.{eqb}
@@ -11,8 +11,7 @@ use Rattle.xdr.specs.declared.WordRead.the-variants.{Word, CutWord}
 use Rattle.xdr.proofs.Reading.{word-read}
 use Rattle.sflow.specs.declared.Refusal.{Refusal}
 use Rattle.sflow.specs.declared.Refusal.the-variants.{CutItem, SampleType}
-use Rattle.sflow.specs.Grammar.{Value}
-use Rattle.sflow.specs.Decode.{Decoded, found, refused, mapped, decode}
+use Rattle.sflow.specs.Decode.{found, refused, mapped, decode}
 use Rattle.sflow.specs.Datagram.{flow-sample, counters-sample, sample-type}
 use Rattle.sflow.proofs.Steps.{union-arm, union-bad, union-cut}
 use Rattle.sflow.proofs.Ends.{end-is}
@@ -21,12 +20,7 @@ use Rattle.reader.specs.declared.sample.FlowRead.the-variants.{Found as 
 use Rattle.reader.specs.declared.sample.CountersSample.{CountersSample}
 use Rattle.reader.specs.declared.sample.CountersRead.the-variants.{Found as FoundCounters, Refused as RefusedCounters}
 use Rattle.reader.specs.declared.sample.SampleValues.the-variants.{Flow, Counters}
-use Rattle.reader.specs.declared.sample.SampleRead.{SampleRead}
-use Rattle.reader.specs.declared.sample.SampleRead.the-variants.{Found as FoundSample, Refused as RefusedSample}
-use Rattle.fields.specs.declared.strings.Passed.{Passed}
-use Rattle.fields.specs.declared.strings.Passed.the-variants.{Next, Refused}
-use Rattle.fields.specs.Parts.{asPassed}
-use Rattle.reader.specs.Samples.{flowOf, asFlow, countersOf, asCounters, sampleOf, asSample}
+use Rattle.reader.specs.Samples.{flowOf, asFlow, countersOf, asCounters, sampleOf}
 use Rattle.reader.proofs.Answers.{flow-told, counters-told}
 use Rattle.fields.proofs.Compounds.{seen, wrapped}
 
@@ -90,16 +84,3 @@ module _ (s : List ℕ) (at k start : ℕ) (e : wordAt s at ≡ Word k start) wh
         let n = end-is counters-sample s start (b .value) next (b .found-is) in
         let m = w .next-is in
         omega arith
-
--- the answer about a sample says where it ends
-abbrev placed : SampleRead → Passed
-placed (FoundSample v next) = Next next
-placed (RefusedSample why p) = Refused why p
-
-pub sample-passed : (s : List ℕ) (at : ℕ) (r : SampleRead) → asSample at (mapped (sampleOf at) (decode sample-type s at)) ≡ r
-    → placed r ≡ asPassed (decode sample-type s at)
-sample-passed s at r e = go (decode sample-type s at) e
-  where
-    go : (d : Decoded (Value sample-type)) → asSample at (mapped (sampleOf at) d) ≡ r → placed r ≡ asPassed d
-    go (found v next) f = sym (ap placed f)
-    go (refused why p) f = sym (ap placed f)

@@ -63,15 +63,6 @@ pub fn read_head(s: &[u8]) -> HeadRead
     }
 }
 
-fn pass_sample(s: &[u8], at: usize) -> Passed
-    ensures { λ r. ⌜ r ≡ asPassed (decode sample-type (now (s .entry)) at) ⌝ }
-{
-    match crate::sample::read_sample(s, at) {
-        SampleRead::Found(_, next) => Passed::Next(next),
-        SampleRead::Refused(why, p) => Passed::Refused(why, p),
-    }
-}
-
 // So many samples.
 fn pass_samples(s: &[u8], first: usize, count: u32) -> Passed
     ensures { λ r. ⌜ r ≡ asPassed (entries (decode sample-type (now (s .entry))) count first) ⌝ }
@@ -79,7 +70,7 @@ fn pass_samples(s: &[u8], first: usize, count: u32) -> Passed
     let mut at = first;
     let mut left = count;
     while 0 < left {
-        let entry = pass_sample(s, at);
+        let entry = crate::sample::pass_sample(s, at);
         let Passed::Next(next) = entry else {
             return entry;
         };

@@ -12,6 +12,7 @@ ghost use Prim.Native.Nat.{_≤_};
 ghost use Rattle.sflow.specs.Grammar.{list, fixed};
 ghost use Rattle.sflow.specs.Decode.{decode, found, mapped};
 ghost use Rattle.sflow.specs.Datagram.{flow-words, extended-data-type, flow-sample, counters-sample, sample-type};
+ghost use Rattle.fields.specs.Parts.{asPassed};
 ghost use Rattle.reader.specs.Samples.{flowWordsOf, asFlowWords, flowWith, flowOf, asFlow, countersOf, asCounters, sampleOf, asSample};
 
 // The words that a flow sample begins with.
@@ -213,4 +214,47 @@ pub fn read_sample(s: &[u8], at: usize) -> SampleRead
         };
     }
     SampleRead::Refused(Refusal::SampleType, at)
+}
+
+// A flow sample behind its type word that is not handed out.
+fn pass_flow(s: &[u8], at: usize) -> Passed
+    ensures { λ r. ⌜ r ≡ asPassed (decode flow-sample (now (s .entry)) at) ⌝ }
+{
+    let words = fields::runs::pass_run(s, at, 28, b"\x04\x04\x04\x04\x04\x04\x04");
+    let Passed::Next(packet_at) = words else {
+        return words;
+    };
+    let packet = packet_data::pass_packet(s, packet_at);
+    let Passed::Next(list_at) = packet else {
+        return packet;
+    };
+    let WordRead::Word(count, first) = xdr::read_word(s, list_at) else {
+        return Passed::Refused(Refusal::CutItem, list_at);
+    };
+    extended_data::pass_extended(s, first, count)
+}
+
+// The same of a counter sample.
+fn pass_counters_sample(s: &[u8], at: usize) -> Passed
+    ensures { λ r. ⌜ r ≡ asPassed (decode counters-sample (now (s .entry)) at) ⌝ }
+{
+    let words = fields::runs::pass_run(s, at, 12, b"\x04\x04\x04");
+    let Passed::Next(counters_at) = words else {
+        return words;
+    };
+    counter_data::pass_counters(s, counters_at)
+}
+
+// A sample at its type word that is not handed out.
+pub fn pass_sample(s: &[u8], at: usize) -> Passed
+    ensures { λ r. ⌜ r ≡ asPassed (decode sample-type (now (s .entry)) at) ⌝ }
+{
+    let WordRead::Word(kind, start) = xdr::read_word(s, at) else {
+        return Passed::Refused(Refusal::CutItem, at);
+    };
+    match kind {
+        1 => pass_flow(s, start),
+        2 => pass_counters_sample(s, start),
+        _ => Passed::Refused(Refusal::SampleType, at),
+    }
 }

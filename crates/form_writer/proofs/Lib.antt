@@ -1,0 +1,14 @@
+pub mod Rooms
+pub mod WordRuns
+pub mod Stores
+pub mod Allowances
+pub mod Allowed
+pub mod PacketOctets
+pub mod ExtendedOctets
+pub mod PathOctets
+pub mod GatewayValues
+pub mod FitTests
+pub mod NumberRuns
+pub mod CounterForms
+pub mod Flows
+pub mod OneSample

@@ -1,0 +1,132 @@
+// Extended data, with their type word, and path segments.
+use crate::parts::WriteAnswer;
+use extended_data::Router;
+use extended_data::Switch;
+use fields::strings::Passed;
+ghost use mathlib.Core.Path.{_≡_};
+ghost use lib.ListN.{length};
+ghost use Rattle.sflow.specs.Grammar.{encode};
+ghost use Rattle.sflow.specs.Datagram.{as-path-type, extended-data-type};
+ghost use Rattle.form_writer.specs.Parts.{outcome, writeAlone, writeValue};
+ghost use Rattle.form_writer.specs.Values.{
+  switchValue,
+  addressAllowed,
+  routerValue,
+  segmentAllowed,
+  segmentValue,
+  pathAllowed,
+  gatewayOctets,
+  userAllowed,
+  userValue,
+  urlAllowed,
+  urlValue,
+};
+
+pub fn write_switch(d: &mut [u8], x: Switch) -> WriteAnswer
+    ensures { λ r. ⌜ outcome r (now (d .exit)) ≡ writeAlone (encode extended-data-type (switchValue x)) (now (d .entry)) ⌝ }
+{
+    let ws = [1, x.src_vlan, x.src_priority, x.dst_vlan, x.dst_priority];
+    crate::parts::write_words(d, &ws)
+}
+
+pub fn write_router(d: &mut [u8], x: Router) -> WriteAnswer
+    ensures { λ r. ⌜ outcome r (now (d .exit)) ≡ writeValue (addressAllowed (x .nexthop)) (encode extended-data-type (routerValue x)) (now (d .entry)) ⌝ }
+{
+    let a = x.nexthop;
+    let q = a.octets;
+    let kind = a.kind;
+    if kind == 1 {
+        let ws = [2, 1, q.a, x.src_mask, x.dst_mask];
+        return crate::parts::write_words(d, &ws);
+    }
+    if kind == 2 {
+        let ws = [2, 2, q.a, q.b, q.c, q.d, x.src_mask, x.dst_mask];
+        return crate::parts::write_words(d, &ws);
+    }
+    WriteAnswer::BadValue
+}
+
+// A path segment of a type, 1 or 2, and its numbers.
+pub fn write_segment(d: &mut [u8], kind: u32, numbers: &[u32]) -> WriteAnswer
+    ensures { λ r. ⌜ outcome r (now (d .exit))
+        ≡ writeValue (segmentAllowed kind (now (numbers .entry))) (encode as-path-type (segmentValue kind (now (numbers .entry)))) (now (d .entry)) ⌝ }
+{
+    if kind < 1 {
+        return WriteAnswer::BadValue;
+    }
+    if 2 < kind {
+        return WriteAnswer::BadValue;
+    }
+    if 4294967295 < numbers.len() {
+        return WriteAnswer::BadValue;
+    }
+    let head = [kind, numbers.len() as u32];
+    let empty = [0u32; 1];
+    let none = &empty[..0];
+    crate::parts::write_parts(d, &head, b"", none, numbers, b"", none)
+}
+
+// A gateway: the words before the path, so many path segments as octets that write_segment wrote, the communities and the local preference.
+pub fn write_gateway(
+    d: &mut [u8],
+    words: [u32; 3],
+    count: u32,
+    path: &[u8],
+    communities: &[u32],
+    localpref: u32,
+) -> WriteAnswer
+    ensures { λ r. ⌜ outcome r (now (d .exit))
+        ≡ writeValue (pathAllowed count (now (path .entry)) (now (communities .entry)))
+        (gatewayOctets words count (now (path .entry)) (now (communities .entry)) localpref) (now (d .entry)) ⌝ }
+{
+    let passed = extended_data::pass_segments(path, 0, count);
+    let Passed::Next(end) = passed else {
+        return WriteAnswer::BadValue;
+    };
+    if end != path.len() {
+        return WriteAnswer::BadValue;
+    }
+    if 4294967295 < communities.len() {
+        return WriteAnswer::BadValue;
+    }
+    let head = [3, words[0], words[1], words[2], count];
+    let middle = [communities.len() as u32];
+    let tail = [localpref];
+    crate::parts::write_parts(d, &head, path, &middle, communities, b"", &tail)
+}
+
+pub fn write_user(d: &mut [u8], src_user: &[u8], dst_user: &[u8]) -> WriteAnswer
+    ensures { λ r. ⌜ outcome r (now (d .exit))
+        ≡ writeValue (userAllowed (now («src_user» .entry)) (now («dst_user» .entry))) (encode extended-data-type (userValue (now («src_user» .entry)) (now («dst_user» .entry)))) (now (d .entry)) ⌝ }
+{
+    if 4294967295 < src_user.len() {
+        return WriteAnswer::BadValue;
+    }
+    if 4294967295 < dst_user.len() {
+        return WriteAnswer::BadValue;
+    }
+    let head = [4, src_user.len() as u32];
+    let middle = [dst_user.len() as u32];
+    let empty = [0u32; 1];
+    let none = &empty[..0];
+    crate::parts::write_parts(d, &head, src_user, &middle, none, dst_user, none)
+}
+
+pub fn write_url(d: &mut [u8], direction: u32, url: &[u8]) -> WriteAnswer
+    ensures { λ r. ⌜ outcome r (now (d .exit))
+        ≡ writeValue (urlAllowed direction (now (url .entry))) (encode extended-data-type (urlValue direction (now (url .entry)))) (now (d .entry)) ⌝ }
+{
+    if direction < 1 {
+        return WriteAnswer::BadValue;
+    }
+    if 2 < direction {
+        return WriteAnswer::BadValue;
+    }
+    if 4294967295 < url.len() {
+        return WriteAnswer::BadValue;
+    }
+    let head = [5, direction, url.len() as u32];
+    let empty = [0u32; 1];
+    let none = &empty[..0];
+    crate::parts::write_parts(d, &head, url, none, none, b"", none)
+}

@@ -1,0 +1,7 @@
+pub mod Appends
+pub mod Limits
+pub mod SoFar
+pub mod Starts
+pub mod Theorems
+pub mod Values
+pub mod Cases

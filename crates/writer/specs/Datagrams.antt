@@ -1,0 +1,80 @@
+-- What starting a datagram and appending a sample to it answer, and what the buffer then holds (document 01, "Writer"): 21, 23, 22, 20 in this order.
+use Prim.Native.Nat.{ℕ, _+_, _≤_}
+use mathlib.Core.Path.{_≡_}
+use mathlib.Core.Bool.{Bool, false, cond}
+use mathlib.Core.List.{List, [], _∷_}
+use lib.ListN.{length, take}
+use lib.Dec.{leb}
+use Rattle.xdr.specs.Numbers.{octetsOf}
+use Rattle.xdr.specs.Writes.{stored}
+use Rattle.sflow.specs.Grammar.{Value, encode}
+use Rattle.sflow.specs.Decode.{Decoded, found, refused}
+use Rattle.sflow.specs.Datagram.{address, sample-datagram, agentAddress, samples}
+use Rattle.sflow.specs.Reading.{longest, readDatagram}
+use Rattle.fields.specs.declared.address.Address.{Address}
+use Rattle.form_writer.specs.declared.parts.WriteAnswer.{WriteAnswer}
+use Rattle.form_writer.specs.declared.parts.WriteAnswer.the-variants.{Done, BadLimit, BadDatagram, BadValue, NoRoom}
+use Rattle.form_writer.specs.Parts.{Outcome, outcome, writeValue}
+use Rattle.form_writer.specs.Values.{addressAllowed, addressValue}
+use Rattle.writer.specs.declared.Checked.{Checked}
+use Rattle.writer.specs.declared.Checked.the-variants.{Ready, NotReady}
+
+-- a limit from 36 octets to the longest datagram, and not above the buffer
+abbrev pub limitAllowed : ℕ → ℕ → Bool
+limitAllowed limit room = cond (leb 36 limit) (cond (leb limit longest) (leb limit room) false) false
+
+-- ---- a datagram without samples
+
+abbrev pub startValue : Address → ℕ → ℕ → Value sample-datagram
+startValue agent sequence uptime = (4, (addressValue agent, ((sequence ∷ uptime ∷ []), [])))
+
+unfoldable pub started : ℕ → Address → ℕ → ℕ → List ℕ → Outcome
+started limit agent sequence uptime d =
+    cond (limitAllowed limit (length d))
+    (writeValue (addressAllowed agent) (encode sample-datagram (startValue agent sequence uptime)) d)
+    (outcome BadLimit d)
+
+-- ---- a sample more
+
+-- the count word stands right before the samples, behind version, agent address, sequence number and uptime
+abbrev pub countAt : Value sample-datagram → ℕ
+countAt v = 12 + length (encode address (agentAddress v))
+
+abbrev pub readySoFar : Decoded (Value sample-datagram) → Checked
+readySoFar (found v end) = Ready (countAt v) (length (samples v) + 1)
+readySoFar (refused why p) = NotReady BadDatagram
+
+-- the limit, then the datagram so far, whose octets are the buffer's first
+unfoldable pub checkedAt : ℕ → ℕ → List ℕ → Checked
+checkedAt limit size d =
+    cond (limitAllowed limit (length d))
+    (cond (leb size limit) (readySoFar (readDatagram (take size d))) (NotReady BadDatagram))
+    (NotReady BadLimit)
+
+-- the octets of a sample behind a datagram of a size, and its count raised, where the new end is within the limit
+abbrev pub raised : ℕ → ℕ → List ℕ → List ℕ → ℕ → ℕ → Outcome
+raised limit size xs d at count =
+    cond (leb (size + length xs) limit)
+    (outcome (Done (size + length xs)) (stored (stored d size xs) at (octetsOf 4 count)))
+    (outcome NoRoom d)
+
+abbrev pub appendTo : Bool → List ℕ → ℕ → ℕ → List ℕ → Checked → Outcome
+appendTo allowed xs limit size d (NotReady answer) = outcome answer d
+appendTo allowed xs limit size d (Ready at count) = cond allowed (raised limit size xs d at count) (outcome BadValue d)
+
+-- a sample of these octets, if it is allowed, appended to the datagram so far
+unfoldable pub appended : Bool → List ℕ → ℕ → ℕ → List ℕ → Outcome
+appended allowed xs limit size d = appendTo allowed xs limit size d (checkedAt limit size d)
+
+-- what a sample's writer answered for the room behind a datagram of a size, and the count raised where it wrote
+unfoldable pub counted : ℕ → ℕ → ℕ → WriteAnswer → List ℕ → Outcome
+counted at count size (Done n) d = outcome (Done (size + n)) (stored d at (octetsOf 4 count))
+counted at count size BadLimit d = outcome BadLimit d
+counted at count size BadDatagram d = outcome BadDatagram d
+counted at count size BadValue d = outcome BadValue d
+counted at count size NoRoom d = outcome NoRoom d
+
+-- the buffer holds the count word, and the new end
+pub record Fitting (at size : ℕ) (answer : WriteAnswer) (d : List ℕ) : Type 0 where
+  pub word : at + 4 ≤ length d
+  pub end : (n : ℕ) → answer ≡ Done n → size + n ≤ length d

@@ -1,0 +1,171 @@
+// Writes sFlow version 4 datagrams into a lent buffer: a datagram without samples, and one sample more at its end (document 01, "Writer"). A refusal
+// leaves every octet of the buffer as it was; octets behind the new end stay.
+use fields::address::Address;
+use form_writer::parts::WriteAnswer;
+use reader::datagram::HeadRead;
+use reader::sample::FlowWords;
+ghost use mathlib.Core.Path.{_≡_};
+ghost use lib.ListN.{length};
+ghost use Prim.Native.Nat.{_+_, _≤_};
+ghost use Rattle.sflow.specs.Datagram.{sample-type};
+ghost use Rattle.form_writer.specs.Parts.{outcome};
+ghost use Rattle.form_writer.specs.FlowValues.{isOne, flowAllowed, flowOctets};
+ghost use Rattle.sflow.specs.Grammar.{encode};
+ghost use Rattle.form_writer.specs.CounterValues.{countersAllowed, countersValue};
+ghost use Rattle.writer.specs.Datagrams.{limitAllowed, started, checkedAt, Fitting, counted, appended};
+
+// Whether a limit is one that a datagram can have and the buffer holds.
+fn limit_allowed(limit: usize, room: usize) -> bool
+    ensures { λ r. ⌜ r ≡ limitAllowed limit room ⌝ }
+{
+    if limit < 36 {
+        return false;
+    }
+    if 65507 < limit {
+        return false;
+    }
+    limit <= room
+}
+
+// A datagram without samples.
+pub fn start(
+    d: &mut [u8],
+    limit: usize,
+    agent: Address,
+    sequence_number: u32,
+    uptime: u32,
+) -> WriteAnswer
+    ensures { λ r. ⌜ outcome r (now (d .exit)) ≡ started limit agent «sequence_number» uptime (now (d .entry)) ⌝ }
+{
+    if limit_allowed(limit, d.len()) {
+        let q = agent.octets;
+        let kind = agent.kind;
+        if kind == 1 {
+            let ws = [4, 1, q.a, sequence_number, uptime, 0];
+            return form_writer::parts::write_words(d, &ws);
+        }
+        if kind == 2 {
+            let ws = [4, 2, q.a, q.b, q.c, q.d, sequence_number, uptime, 0];
+            return form_writer::parts::write_words(d, &ws);
+        }
+        return WriteAnswer::BadValue;
+    }
+    WriteAnswer::BadLimit
+}
+
+// The offset of the count word and the count with one sample more; or why nothing can be appended.
+pub enum Checked {
+    Ready(usize, u32),
+    NotReady(WriteAnswer),
+}
+
+// The limit, and the datagram so far.
+fn check_so_far(d: &[u8], limit: usize, length: usize) -> Checked
+    ensures { λ r. ⌜ r ≡ checkedAt limit length (now (d .entry)) ⌝ }
+{
+    if limit_allowed(limit, d.len()) {
+        if limit < length {
+            return Checked::NotReady(WriteAnswer::BadDatagram);
+        }
+        let HeadRead::Found(head) = reader::datagram::read(&d[..length]) else {
+            return Checked::NotReady(WriteAnswer::BadDatagram);
+        };
+        let samples = head.samples;
+        return Checked::Ready(samples.at - 4, samples.count + 1);
+    }
+    Checked::NotReady(WriteAnswer::BadLimit)
+}
+
+// The count word, where a sample of so many octets was written behind a datagram of a length; another answer stays.
+fn raise_count(
+    d: &mut [u8],
+    at: usize,
+    count: u32,
+    length: usize,
+    answer: WriteAnswer,
+) -> WriteAnswer
+    requires { ⌜ Fitting at length answer (now d) ⌝ }
+    ensures { λ r. ⌜ outcome r (now (d .exit)) ≡ counted at count length answer (now (d .entry)) ⌝ }
+{
+    match answer {
+        WriteAnswer::Done(n) => {
+            xdr::write_word(d, at, count);
+            WriteAnswer::Done(length + n)
+        }
+        WriteAnswer::BadLimit => WriteAnswer::BadLimit,
+        WriteAnswer::BadDatagram => WriteAnswer::BadDatagram,
+        WriteAnswer::BadValue => WriteAnswer::BadValue,
+        WriteAnswer::NoRoom => WriteAnswer::NoRoom,
+    }
+}
+
+// A sample more, given as octets.
+pub fn append_octets(d: &mut [u8], limit: usize, length: usize, sample: &[u8]) -> WriteAnswer
+    ensures { λ r. ⌜ outcome r (now (d .exit)) ≡ appended (isOne sample-type (now (sample .entry))) (now (sample .entry)) limit length (now (d .entry)) ⌝ }
+{
+    match check_so_far(d, limit, length) {
+        Checked::NotReady(why) => why,
+        Checked::Ready(at, count) => {
+            let answer = form_writer::sample::write_sample(&mut d[length..limit], sample);
+            raise_count(d, at, count, length, answer)
+        }
+    }
+}
+
+// A flow sample more: its words, packet data as octets that their writer wrote, and so many extended entries as octets that their writers wrote.
+pub fn append_flow(
+    d: &mut [u8],
+    limit: usize,
+    length: usize,
+    words: FlowWords,
+    packet: &[u8],
+    count: u32,
+    extended: &[u8],
+) -> WriteAnswer
+    ensures { λ r. ⌜ outcome r (now (d .exit))
+        ≡ appended (flowAllowed (now (packet .entry)) count (now (extended .entry))) (flowOctets words (now (packet .entry)) count (now (extended .entry))) limit length (now (d .entry)) ⌝ }
+{
+    match check_so_far(d, limit, length) {
+        Checked::NotReady(why) => why,
+        Checked::Ready(at, samples) => {
+            let answer = form_writer::sample::write_flow(
+                &mut d[length..limit],
+                words,
+                packet,
+                count,
+                extended,
+            );
+            raise_count(d, at, samples, length, answer)
+        }
+    }
+}
+
+// A counter sample more: the counters are numbers in the order of the version's fields.
+pub fn append_counters(
+    d: &mut [u8],
+    limit: usize,
+    length: usize,
+    sequence_number: u32,
+    source_id: u32,
+    sampling_interval: u32,
+    version: u32,
+    numbers: &[u64],
+) -> WriteAnswer
+    ensures { λ r. ⌜ outcome r (now (d .exit))
+        ≡ appended (countersAllowed version (now (numbers .entry))) (encode sample-type (countersValue «sequence_number» «source_id» «sampling_interval» version (now (numbers .entry)))) limit length (now (d .entry)) ⌝ }
+{
+    match check_so_far(d, limit, length) {
+        Checked::NotReady(why) => why,
+        Checked::Ready(at, samples) => {
+            let answer = form_writer::counters::write_counters(
+                &mut d[length..limit],
+                sequence_number,
+                source_id,
+                sampling_interval,
+                version,
+                numbers,
+            );
+            raise_count(d, at, samples, length, answer)
+        }
+    }
+}
