@@ -6,13 +6,14 @@ use mathlib.Core.List.{List, []}
 use mathlib.Core.Bool.{false, _||_}
 use lib.Dec.{eqb}
 use borrow.Author.Tests.{ne-eqb}
+use Rattle.xdr.specs.Numbers.{quadNumber}
 use Rattle.xdr.specs.Items.{wordAt, quadAt}
 use Rattle.xdr.specs.declared.WordRead.the-variants.{Word, CutWord}
 use Rattle.xdr.specs.declared.QuadRead.the-variants.{Quad, CutQuad}
 use Rattle.sflow.specs.declared.Refusal.the-variants.{CutItem, AddressType}
 use Rattle.sflow.specs.Decode.{found, refused, mapped, decode}
 use Rattle.sflow.specs.Datagram.{address}
-use Rattle.sflow.proofs.Steps.{union-arm, union-bad, union-cut, fixed-word, fixed-word-cut, fixed-quad, fixed-quad-cut, fixed-end, quadNumber}
+use Rattle.sflow.proofs.Steps.{union-arm, union-bad, union-cut, fixed-word, fixed-word-cut, fixed-quad, fixed-quad-cut, fixed-end}
 use Rattle.fields.specs.declared.address.Quad.{Quad as Four}
 use Rattle.fields.specs.Addresses.{quadOf, firstOf, addressOf}
 

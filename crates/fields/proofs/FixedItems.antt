@@ -3,6 +3,7 @@ use Prim.Native.Nat.{ℕ, _+_}
 use native.Mathlib.Omega.{arith}
 use mathlib.Core.Path.{_≡_, refl}
 use mathlib.Core.List.{List, [], _∷_}
+use Rattle.xdr.specs.Numbers.{quadNumber}
 use Rattle.xdr.specs.Items.{wordAt, quadAt, itemsAt, numbersAt, sum}
 use Rattle.xdr.specs.declared.RunRead.{RunRead}
 use Rattle.xdr.specs.declared.RunRead.the-variants.{Run, CutRun}
@@ -12,7 +13,7 @@ use Rattle.xdr.specs.declared.QuadRead.the-variants.{Quad, CutQuad}
 use Rattle.sflow.specs.declared.Refusal.the-variants.{CutItem}
 use Rattle.sflow.specs.Grammar.{fixed}
 use Rattle.sflow.specs.Decode.{Decoded, found, refused, mapped, fixedItems, decode}
-use Rattle.sflow.proofs.Steps.{fixed-word, fixed-word-cut, fixed-quad, fixed-quad-cut, fixed-end, quadNumber}
+use Rattle.sflow.proofs.Steps.{fixed-word, fixed-word-cut, fixed-quad, fixed-quad-cut, fixed-end}
 
 -- reads of items of these widths, one behind the other from an offset on, and what they find: words, sixteen octets, and no more
 -- items; or the first item that is cut short

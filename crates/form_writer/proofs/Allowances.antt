@@ -72,7 +72,11 @@ other-address a n m = rw (ne-eqb (a .kind) 1 n, ne-eqb (a .kind) 2 m)
 pub refused-value : (allowed : Bool) (xs d : List ℕ) → allowed ≡ false → outcome BadValue d ≡ writeValue allowed xs d
 refused-value allowed xs d e = rw e
 
--- a value that is allowed is written as its octets, where those that were written are the same
+-- a value that is allowed is written as its octets
+pub written-value : (allowed : Bool) (xs d : List ℕ) → allowed ≡ true → writeAlone xs d ≡ writeValue allowed xs d
+written-value allowed xs d e = rw e
+
+-- the same where those that were written are the same
 pub allowed-value : (allowed : Bool) (xs ys d e : List ℕ) (r : WriteAnswer) → allowed ≡ true → ys ≡ xs → outcome r e ≡ writeAlone ys d
     → outcome r e ≡ writeValue allowed xs d
 allowed-value allowed xs ys d e r t same f = f ∙ rw (t, same)

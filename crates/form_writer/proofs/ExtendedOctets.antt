@@ -10,7 +10,7 @@ use Rattle.form_writer.specs.Parts.{wordsOctets, partsOctets}
 use Rattle.fields.specs.declared.address.Quad.{Quad}
 use Rattle.extended_data.specs.declared.Router.{Router}
 use Rattle.form_writer.specs.Values.{routerValue, userValue, urlValue}
-use Rattle.form_writer.proofs.PacketOctets.{quad-octets}
+use Rattle.xdr.proofs.Octets.{quad-octets}
 
 -- the octets of a switch as words
 pub switch-octets : (a b c d : ℕ) → wordsOctets (1 ∷ a ∷ b ∷ c ∷ d ∷ []) ≡ encode extended-data-type (1, (a ∷ b ∷ c ∷ d ∷ []))

@@ -1,7 +1,7 @@
 -- Whether a flow sample may be written, by what reading its parts answers. Assumes nothing.
 use Prim.Native.Nat.{ℕ}
 use mathlib.Core.Path.{_≡_}
-use mathlib.Core.Bool.{Bool, true, false}
+use mathlib.Core.Bool.{true, false}
 use mathlib.Core.List.{List}
 use lib.ListN.{length}
 use Rattle.sflow.specs.declared.Refusal.{Refusal}
@@ -9,17 +9,8 @@ use Rattle.sflow.specs.Decode.{entries, decode}
 use Rattle.sflow.specs.Datagram.{packet-data-type, extended-data-type}
 use Rattle.fields.specs.declared.strings.Passed.the-variants.{Next, Refused}
 use Rattle.fields.specs.Parts.{asPassed}
-use Rattle.form_writer.specs.declared.parts.WriteAnswer.the-variants.{BadValue}
-use Rattle.form_writer.specs.Parts.{outcome, writeAlone, writeValue}
 use Rattle.form_writer.specs.FlowValues.{flowAllowed}
 use Rattle.form_writer.proofs.Allowed.{ends-there, ends-elsewhere, ends-nowhere}
-
--- a value that is not allowed
-pub not-allowed : (allowed : Bool) (xs d : List ℕ) → allowed ≡ false → outcome BadValue d ≡ writeValue allowed xs d
-not-allowed allowed xs d e = rw e
-
-pub is-allowed : (allowed : Bool) (xs d : List ℕ) → allowed ≡ true → writeAlone xs d ≡ writeValue allowed xs d
-is-allowed allowed xs d e = rw e
 
 module _ (packet : List ℕ) (count : ℕ) (extended : List ℕ) where
   pub packet-refused : (why : Refusal) (p : ℕ) → asPassed (decode packet-data-type packet 0) ≡ Refused why p

@@ -1,5 +1,5 @@
 -- What a gateway's writer writes is the encoding of a value that the grammar allows. Assumes nothing.
-use Prim.Native.Nat.{ℕ, zero, suc, _^_, _≤_, _<_}
+use Prim.Native.Nat.{ℕ, suc, _^_, _<_}
 use native.Mathlib.Omega.{arith}
 use mathlib.Core.Path.{_≡_, refl, ap, _∙_}
 use mathlib.Core.Bool.{true}
@@ -8,39 +8,15 @@ use lib.ListN.{length, getD, drop}
 use lib.Seq.{drop-length}
 use borrow.Author.Tests.{eqb-true, ltb-true}
 use Rattle.xdr.specs.Numbers.{Octets}
-use Rattle.sflow.specs.Slices.{Slice}
 use Rattle.sflow.specs.Grammar.{Form, list, Value, Each, Fits, Valid, octetsOfEach, encode}
-use Rattle.sflow.specs.Decode.{Decoded, found, refused, andThen, entries, decode}
+use Rattle.sflow.specs.Decode.{Decoded, found, refused, entries, decode}
 use Rattle.sflow.specs.Datagram.{word, as-path-type, extended-data-type}
-use Rattle.sflow.proofs.Slices.{empty, join}
-use Rattle.sflow.proofs.Sound.{Read, Good, good}
-use Rattle.sflow.proofs.Steps.{entries-count}
+use Rattle.sflow.proofs.Sound.{entries-sound}
 use Rattle.form_writer.specs.Values.{endsAt, areEntries, countable, wordsValue, pathAllowed, gatewayOctets}
 use Rattle.form_writer.proofs.PathOctets.{words-count, three-words, words-each}
 use Rattle.form_writer.proofs.Allowances.{both-held}
 
 -- ---- entries
-
--- what is found are entries that the form allows, and their octets stand there; of a refusal nothing is said
-abbrev EntriesGood : (g : Form) → List ℕ → ℕ → Decoded (List (Value g)) → Type 0
-EntriesGood g s at (found vs next) = Each (Valid g) vs × Slice s at next (flatMap (encode g) vs)
-EntriesGood g s at (refused why p) = Unit {0}
-
--- entries that were read are such
-entries-good : (g : Form) (s : List ℕ) → Octets s → (n at : ℕ) → at ≤ length s → EntriesGood g s at (entries (decode g s) n at)
-unfolding entries flatMap
-entries-good g s o zero at h = (tt, empty s at h)
-entries-good g s o (suc n) at h = go (decode g s at) (good g s o at h) (entries-good g s o n)
-  where
-    rest : (v : Value g) (next : ℕ) → Read g s at v next → (d : Decoded (List (Value g))) → EntriesGood g s next d
-        → EntriesGood g s at (andThen d λ vs end. found (v ∷ vs) end)
-    rest v next r (found vs end) q = ((r .valid, q .0), join (r .slice) (q .1))
-    rest v next r (refused why p) q = tt
-
-    go : (d : Decoded (Value g)) → Good g s at d → ((next : ℕ) → next ≤ length s → EntriesGood g s next (entries (decode g s) n next))
-        → EntriesGood g s at (andThen d λ v next. andThen (entries (decode g s) n next) λ vs end. found (v ∷ vs) end)
-    go (found v next) r more = rest v next r (entries (decode g s) n next) (more next (r .slice .high))
-    go (refused why p) r more = tt
 
 -- octets that are exactly so many entries: the entries that reading finds, which the form allows, and whose octets they are
 pub record AreEntries (g : Form) (count : ℕ) (xs : List ℕ) : Type 0 where
@@ -57,14 +33,14 @@ entries-are g count xs o e = go (entries (decode g xs) count 0) refl e
     go : (d : Decoded (List (Value g))) → entries (decode g xs) count 0 ≡ d → endsAt (length xs) d ≡ true → AreEntries g count xs
     go (found vs next) f t =
         let same : next ≡ length xs = eqb-true next (length xs) t in
-        let q : EntriesGood g xs 0 (found vs next) = rw f at (entries-good g xs o count 0 (omega arith)) in
+        let q = entries-sound g xs o count 0 (omega arith) vs next f in
         let end : drop next xs ≡ [] = rw same (drop-length xs) in
         record {
           values = vs;
           reads-as = f ∙ ap (found vs) same;
-          many = entries-count (decode g xs) count 0 vs next f;
-          valid = q .0;
-          octets-are = q .1 .split ∙ rw end (append-nil (flatMap (encode g) vs));
+          many = q .many;
+          valid = q .valid;
+          octets-are = q .slice .split ∙ rw end (append-nil (flatMap (encode g) vs));
         }
     go (refused why p) f t = let z : _≡_ {A = ℕ} 0 1 = cc in absurd (omega arith)
 

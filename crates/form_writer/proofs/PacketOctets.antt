@@ -1,32 +1,15 @@
 -- The octets of packet data as words and a string. Assumes nothing.
-use Prim.Native.Nat.{ℕ, _+_, _*_, _/_, _%_, _^_, _<_}
-use native.Mathlib.Omega.{arith}
-use mathlib.Core.Path.{_≡_, refl, _∙_}
-use mathlib.Core.List.{List, [], _∷_, _++_, flatMap, append-assoc, append-nil}
+use Prim.Native.Nat.{ℕ, _^_, _<_}
+use mathlib.Core.Path.{_≡_, refl}
+use mathlib.Core.List.{List, [], _∷_, flatMap, append-assoc, append-nil}
 use lib.ListN.{length}
-use Rattle.xdr.specs.Numbers.{octetsOf}
+use Rattle.xdr.specs.Numbers.{quadNumber}
 use Rattle.xdr.specs.Writes.{paddedOctets}
-use Rattle.xdr.proofs.Octets.{octets-join, octets-low}
+use Rattle.xdr.proofs.Octets.{quad-octets}
 use Rattle.sflow.specs.Grammar.{octetsOfEach, encode}
 use Rattle.sflow.specs.Datagram.{packet-data-type}
-use Rattle.sflow.proofs.Steps.{quadNumber}
 use Rattle.form_writer.specs.Parts.{wordsOctets, partsOctets}
 use Rattle.form_writer.specs.Values.{headerValue}
-
--- the octets of a number with a word below it: those of the number, and those of the word
-word-below : (v y x : ℕ) → x < 2 ^ 32 → octetsOf (v + 4) (y * 2 ^ 32 + x) ≡ octetsOf v y ++ octetsOf 4 x
-word-below v y x h =
-    let n : ℕ = y * 2 ^ 32 + x in
-    let high : n / 256 ^ 4 ≡ y = omega arith in
-    let low : n % 256 ^ 4 ≡ x = omega arith in
-    octets-join v 4 n ∙ rw (high, ← octets-low 4 n, low)
-
--- the octets of an IPv6 address are those of its four words
-pub quad-octets : (a b c d : ℕ) → b < 2 ^ 32 → c < 2 ^ 32 → d < 2 ^ 32
-    → octetsOf 16 (quadNumber a b c d) ≡ octetsOf 4 a ++ (octetsOf 4 b ++ (octetsOf 4 c ++ octetsOf 4 d))
-quad-octets a b c d hb hc hd =
-    word-below 12 ((a * 2 ^ 32 + b) * 2 ^ 32 + c) d hd
-    ∙ rw (word-below 8 (a * 2 ^ 32 + b) c hc, word-below 4 a b hb) (simp append-assoc)
 
 -- the octets of a header as parts
 pub header-octets : (protocol frame : ℕ) (xs : List ℕ)

@@ -4,11 +4,10 @@ use mathlib.Core.Bool.{Bool, false, cond, _||_}
 use mathlib.Core.List.{List, [], _∷_, _++_, map}
 use lib.ListN.{length}
 use lib.Dec.{leb, ltb, eqb}
-use Rattle.xdr.specs.Numbers.{octetsOf}
+use Rattle.xdr.specs.Numbers.{octetsOf, quadNumber}
 use Rattle.sflow.specs.Grammar.{Form, list, Value, encode, oneTo}
 use Rattle.sflow.specs.Decode.{Decoded, found, refused, entries, decode}
 use Rattle.sflow.specs.Datagram.{word, address, packet-data-type, as-path-type, extended-data-type}
-use Rattle.sflow.proofs.Steps.{quadNumber}
 use Rattle.fields.specs.declared.address.Quad.{Quad}
 use Rattle.fields.specs.declared.address.Address.{Address}
 use Rattle.packet_data.specs.declared.SampledIpv4.{SampledIpv4}

@@ -5,13 +5,14 @@ use mathlib.Core.List.{List, [], _∷_}
 use mathlib.Core.Bool.{false, _||_}
 use lib.Dec.{eqb}
 use borrow.Author.Tests.{ne-eqb}
+use Rattle.xdr.specs.Numbers.{quadNumber}
 use Rattle.xdr.specs.Items.{wordAt}
 use Rattle.xdr.specs.declared.WordRead.the-variants.{Word, CutWord}
 use Rattle.xdr.proofs.Reading.{word-read}
 use Rattle.sflow.specs.declared.Refusal.the-variants.{CutItem, PacketDataType}
 use Rattle.sflow.specs.Decode.{Decoded, found, refused, mapped, decode}
 use Rattle.sflow.specs.Datagram.{sampled-header, sampled-ipv4, sampled-ipv6, packet-data-type}
-use Rattle.sflow.proofs.Steps.{union-arm, union-bad, union-cut, quadNumber}
+use Rattle.sflow.proofs.Steps.{union-arm, union-bad, union-cut}
 use Rattle.fields.specs.declared.address.Quad.{Quad}
 use Rattle.packet_data.specs.declared.PacketData.the-variants.{Ipv6}
 use Rattle.packet_data.specs.Packets.{headerOf, ipv4Of, ipv6Of, packetOf}

@@ -51,3 +51,8 @@ complete (f then g) v h s at next p =
       complete f (v .0) (h .0) s at mid (first (encode f (v .0)) (encode g (v .1)) p),
       complete g (v .1) (h .1) s mid next (second (encode f (v .0)) (encode g (v .1)) p),
     )
+
+-- and so are entries, one behind the other
+pub entries-read : (g : Form) (s : List ℕ) (vs : List (Value g)) → Each (Valid g) vs → (at next : ℕ) → Slice s at next (flatMap (encode g) vs)
+    → entries (decode g s) (length vs) at ≡ found vs next
+entries-read g s vs h at next p = entries-complete g s (λ v f a b q. complete g v f s a b q) vs h at next p

@@ -75,12 +75,14 @@ opaque-good (atMost most why) s o at n next w = go (leb n most) refl
 
 -- ---- entries of a list
 
-record EntriesRead (g : Form) (s : List ℕ) (n at : ℕ) (vs : List (Value g)) (next : ℕ) : Type 0 where
-  many : length vs ≡ n
-  valid : Each (Valid g) vs
-  slice : Slice s at next (flatMap (encode g) vs)
+-- so many entries that were read: the form allows each, and their octets stand there
+pub record EntriesRead (g : Form) (s : List ℕ) (n at : ℕ) (vs : List (Value g)) (next : ℕ) : Type 0 where
+  pub many : length vs ≡ n
+  pub valid : Each (Valid g) vs
+  pub slice : Slice s at next (flatMap (encode g) vs)
 
-abbrev EntriesGood : (g : Form) → List ℕ → ℕ → ℕ → Decoded (List (Value g)) → Type 0
+-- the same of what reading finds; of a refusal nothing is said
+abbrev pub EntriesGood : (g : Form) → List ℕ → ℕ → ℕ → Decoded (List (Value g)) → Type 0
 EntriesGood g s n at (found vs next) = EntriesRead g s n at vs next
 EntriesGood g s n at (refused why p) = Unit {0}
 
@@ -148,6 +150,10 @@ good (list g) s o at h =
     on-word (Good (list g) s at) _ s o at tt
     (λ n next w. list-good g s at n next w (entries (decode g s) n next) (entries-good g s (good g s o) n next (w .slice .high)))
 good (f then g) s o at h = then-good f g s at (decode f s at) (good f s o at h) (good g s o)
+
+pub entries-sound : (g : Form) (s : List ℕ) → Octets s → (n at : ℕ) → at ≤ length s → (vs : List (Value g)) (next : ℕ)
+    → entries (decode g s) n at ≡ found vs next → EntriesRead g s n at vs next
+entries-sound g s o n at h vs next e = rw e at (entries-good g s (good g s o) n at h)
 
 pub sound : (g : Form) (s : List ℕ) → Octets s → (at : ℕ) (v : Value g) (next : ℕ) → at ≤ length s → decode g s at ≡ found v next → Read g s at v next
 sound g s o at v next h e = rw e at (good g s o at h)

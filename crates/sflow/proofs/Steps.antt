@@ -6,7 +6,7 @@ use mathlib.Core.List.{List, [], _∷_}
 use mathlib.Core.Bool.{Bool, true, false, cond}
 use lib.ListN.{length, take, drop}
 use borrow.Author.Tests.{le-leb, lt-leb}
-use Rattle.xdr.specs.Numbers.{numberAt}
+use Rattle.xdr.specs.Numbers.{numberAt, quadNumber}
 use Rattle.xdr.specs.Items.{wordAt, quadAt, itemsAt, numbersAt, paddedAt}
 use Rattle.xdr.specs.declared.WordRead.the-variants.{Word, CutWord}
 use Rattle.xdr.specs.declared.QuadRead.the-variants.{Quad, CutQuad}
@@ -45,10 +45,6 @@ fixed-word s at v next ws e = let r = word-read s at v next e in rw (r .value-is
 
 pub fixed-word-cut : (s : List ℕ) (at p : ℕ) (ws : List ℕ) → wordAt s at ≡ CutWord p → decode (fixed (4 ∷ ws)) s at ≡ refused CutItem at
 fixed-word-cut s at p ws e = fixed-stop s at 4 ws (word-short s at p e)
-
--- the number of four words
-abbrev pub quadNumber : ℕ → ℕ → ℕ → ℕ → ℕ
-quadNumber a b c d = ((a * 2 ^ 32 + b) * 2 ^ 32 + c) * 2 ^ 32 + d
 
 pub fixed-quad : (s : List ℕ) (at a b c d next : ℕ) (ws : List ℕ) → quadAt s at ≡ Quad a b c d next
     → decode (fixed (16 ∷ ws)) s at ≡ mapped (λ vs. quadNumber a b c d ∷ vs) (decode (fixed ws) s next)

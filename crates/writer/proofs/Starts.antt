@@ -1,37 +1,21 @@
 -- The octets of a datagram without samples. Assumes nothing.
-use Prim.Native.Nat.{ℕ, _+_, _*_, _/_, _%_, _^_, _<_}
-use native.Mathlib.Omega.{arith}
+use Prim.Native.Nat.{ℕ, _^_, _<_}
 use mathlib.Core.Path.{_≡_, ap, _∙_}
 use mathlib.Core.Bool.{true, false, cond}
-use mathlib.Core.List.{List, [], _∷_, _++_, flatMap, append-assoc, append-nil}
+use mathlib.Core.List.{List, [], _∷_, flatMap, append-assoc, append-nil}
 use lib.ListN.{length}
 use lib.Dec.{eqb}
 use borrow.Author.Tests.{eq-eqb, ne-eqb}
-use Rattle.xdr.specs.Numbers.{octetsOf}
-use Rattle.xdr.proofs.Octets.{octets-join, octets-low}
+use Rattle.xdr.specs.Numbers.{quadNumber}
+use Rattle.xdr.proofs.Octets.{quad-octets}
 use Rattle.sflow.specs.Grammar.{octetsOfEach, encode}
 use Rattle.sflow.specs.Datagram.{sample-datagram}
-use Rattle.sflow.proofs.Steps.{quadNumber}
 use Rattle.fields.specs.declared.address.Address.{Address}
 use Rattle.form_writer.specs.declared.parts.WriteAnswer.the-variants.{BadLimit, BadValue}
 use Rattle.form_writer.specs.Parts.{outcome, writeAlone, wordsOctets}
 use Rattle.form_writer.specs.Values.{quadValue, addressAllowed}
-use Rattle.form_writer.proofs.Flows.{is-allowed}
+use Rattle.form_writer.proofs.Allowances.{written-value}
 use Rattle.writer.specs.Datagrams.{limitAllowed, startValue, started}
-
--- the octets of a number and a word behind it
-octets-split : (v m d : ℕ) → d < 2 ^ 32 → octetsOf (v + 4) (m * 2 ^ 32 + d) ≡ octetsOf v m ++ octetsOf 4 d
-octets-split v m d h =
-    let q : (m * 2 ^ 32 + d) / 256 ^ 4 ≡ m = omega arith in
-    let r : (m * 2 ^ 32 + d) % 256 ^ 4 ≡ d = omega arith in
-    octets-join v 4 (m * 2 ^ 32 + d) ∙ rw (q, ← octets-low 4 (m * 2 ^ 32 + d), r)
-
--- sixteen octets as four words
-pub quad-octets : (a b c d : ℕ) → b < 2 ^ 32 → c < 2 ^ 32 → d < 2 ^ 32
-    → octetsOf 16 (quadNumber a b c d) ≡ octetsOf 4 a ++ (octetsOf 4 b ++ (octetsOf 4 c ++ octetsOf 4 d))
-quad-octets a b c d hb hc hd =
-    octets-split 12 ((a * 2 ^ 32 + b) * 2 ^ 32 + c) d hd
-    ∙ rw (octets-split 8 (a * 2 ^ 32 + b) c hc, octets-split 4 a b hb) (simp append-assoc)
 
 start-v4 : (a q s u k : ℕ) → k ≡ 1
     → wordsOctets (4 ∷ 1 ∷ a ∷ s ∷ u ∷ 0 ∷ []) ≡ encode sample-datagram (4, ((k, (cond (eqb k 1) a q ∷ [])), ((s ∷ u ∷ []), [])))
@@ -54,7 +38,7 @@ module _ (limit : ℕ) (agent : Address) (s u : ℕ) (d : List ℕ) where
     start-ipv4 f =
         rw e
         (ap (λ (xs : List ℕ). writeAlone xs d) (start-v4 (agent .octets .a) (quadValue (agent .octets)) s u (agent .kind) f)
-        ∙ is-allowed (addressAllowed agent) (encode sample-datagram (startValue agent s u)) d (rw (eq-eqb (agent .kind) 1 f)))
+        ∙ written-value (addressAllowed agent) (encode sample-datagram (startValue agent s u)) d (rw (eq-eqb (agent .kind) 1 f)))
 
     pub start-ipv6 : agent .kind ≡ 2 → agent .octets .b < 2 ^ 32 → agent .octets .c < 2 ^ 32 → agent .octets .d < 2 ^ 32
         → writeAlone (wordsOctets (4 ∷ 2 ∷ agent .octets .a ∷ agent .octets .b ∷ agent .octets .c ∷ agent .octets .d ∷ s ∷ u ∷ 0 ∷ [])) d ≡ started limit agent s u d
@@ -63,7 +47,7 @@ module _ (limit : ℕ) (agent : Address) (s u : ℕ) (d : List ℕ) where
         let q = agent .octets in
         rw e
         (ap (λ (xs : List ℕ). writeAlone xs d) (start-v6 (q .a) (q .b) (q .c) (q .d) s u (agent .kind) f hb hc hd)
-        ∙ is-allowed (addressAllowed agent) (encode sample-datagram (startValue agent s u)) d (rw (f)))
+        ∙ written-value (addressAllowed agent) (encode sample-datagram (startValue agent s u)) d (rw (f)))
 
     pub start-other : (agent .kind ≡ 1 → ⊥) → (agent .kind ≡ 2 → ⊥) → outcome BadValue d ≡ started limit agent s u d
     unfolding started

@@ -6,7 +6,7 @@ use native.Mathlib.Omega.{arith}
 use mathlib.Core.Path.{_≡_, refl, sym, _∙_}
 use mathlib.Core.List.{List, [], _∷_, _++_, append-assoc, append-nil}
 use lib.ListN.{length, getD, length-append}
-use Rattle.xdr.specs.Numbers.{numberAt, octetsOf}
+use Rattle.xdr.specs.Numbers.{numberAt, octetsOf, quadNumber}
 
 -- The number in v octets and then w octets, from the numbers in each.
 pub number-join : (s : List ℕ) (at v w : ℕ) → numberAt s at (v + w) ≡ numberAt s at v * 256 ^ w + numberAt s (at + v) w
@@ -50,6 +50,21 @@ octets-above (suc w) y x =
 -- The lower w octets of a number are those of its remainder.
 pub octets-low : (w x : ℕ) → octetsOf w (x % 256 ^ w) ≡ octetsOf w x
 octets-low w x = sym (octets-above w (x / 256 ^ w) (x % 256 ^ w)) ∙ rw (div-add-mod' x (256 ^ w))
+
+-- The octets of a number with a word below it: those of the number, and those of the word.
+word-below : (v y x : ℕ) → x < 2 ^ 32 → octetsOf (v + 4) (y * 2 ^ 32 + x) ≡ octetsOf v y ++ octetsOf 4 x
+word-below v y x h =
+    let n : ℕ = y * 2 ^ 32 + x in
+    let high : n / 256 ^ 4 ≡ y = omega arith in
+    let low : n % 256 ^ 4 ≡ x = omega arith in
+    octets-join v 4 n ∙ rw (high, ← octets-low 4 n, low)
+
+-- The sixteen octets of four words are those of each word.
+pub quad-octets : (a b c d : ℕ) → b < 2 ^ 32 → c < 2 ^ 32 → d < 2 ^ 32
+    → octetsOf 16 (quadNumber a b c d) ≡ octetsOf 4 a ++ (octetsOf 4 b ++ (octetsOf 4 c ++ octetsOf 4 d))
+quad-octets a b c d hb hc hd =
+    word-below 12 ((a * 2 ^ 32 + b) * 2 ^ 32 + c) d hd
+    ∙ rw (word-below 8 (a * 2 ^ 32 + b) c hc, word-below 4 a b hb) (simp append-assoc)
 
 -- The four octets of a word, one by one.
 pub word-octets : (v : ℕ) → v < 4294967296 → octetsOf 4 v ≡ v / 16777216 ∷ v / 65536 % 256 ∷ v / 256 % 256 ∷ v % 256 ∷ []

@@ -1,4 +1,5 @@
-use Rattle.form_writer.proofs.Flows.{not-allowed, is-allowed, packet-refused, packet-not-one, extended-refused, extended-not-all, flow-allowed}
+use Rattle.form_writer.proofs.Allowances.{refused-value, written-value}
+use Rattle.form_writer.proofs.Flows.{packet-refused, packet-not-one, extended-refused, extended-not-all, flow-allowed}
 use mathlib.Core.Path.{sym, _∙_}
 use borrow.Author.Needs.{needs}
 use Rattle.form_writer.proofs.sample.write_flow.Statement.{statement}
@@ -18,11 +19,11 @@ enum-told c = search needs
 
 -- src/sample.rt:18:9
 returns : tie.Need-returns
-returns c = not-allowed _ _ _ (packet-refused _ _ _ _ _ (sym (c .before .before .pass-packet .ensures) ∙ c .enum-told .given .1))
+returns c = refused-value _ _ _ (packet-refused _ _ _ _ _ (sym (c .before .before .pass-packet .ensures) ∙ c .enum-told .given .1))
 
 -- src/sample.rt:21:9
 returns-2 : tie.Need-returns-2
-returns-2 c = not-allowed _ _ _ (packet-not-one _ _ _ _ (sym (c .before .before .before .before .pass-packet .ensures) ∙ c .before .before .end .given .1) (c .if1 .taken))
+returns-2 c = refused-value _ _ _ (packet-not-one _ _ _ _ (sym (c .before .before .before .before .pass-packet .ensures) ∙ c .before .before .end .given .1) (c .if1 .taken))
 
 -- src/sample.rt:23:30
 pass-extended-requires : tie.Need-pass-extended-requires
@@ -38,11 +39,11 @@ enum-told-2 c = search needs
 
 -- src/sample.rt:24:9
 returns-3 : tie.Need-returns-3
-returns-3 c = not-allowed _ _ _ (extended-refused _ _ _ _ (sym (c .before .before .before .before .before .before .before .pass-packet .ensures) ∙ c .before .before .before .before .before .end .given .1) (c .before .before .before .if1 .left) _ _ (sym (c .before .before .pass-extended .ensures) ∙ c .enum-told2 .given .1))
+returns-3 c = refused-value _ _ _ (extended-refused _ _ _ _ (sym (c .before .before .before .before .before .before .before .pass-packet .ensures) ∙ c .before .before .before .before .before .end .given .1) (c .before .before .before .if1 .left) _ _ (sym (c .before .before .pass-extended .ensures) ∙ c .enum-told2 .given .1))
 
 -- src/sample.rt:27:9
 returns-4 : tie.Need-returns-4
-returns-4 c = not-allowed _ _ _ (extended-not-all _ _ _ _ (sym (c .before .before .before .before .before .before .before .before .before .pass-packet .ensures) ∙ c .before .before .before .before .before .before .before .end .given .1) (c .before .before .before .before .before .if1 .left) _ (sym (c .before .before .before .before .pass-extended .ensures) ∙ c .before .before .last .given .1) (c .if2 .taken))
+returns-4 c = refused-value _ _ _ (extended-not-all _ _ _ _ (sym (c .before .before .before .before .before .before .before .before .before .pass-packet .ensures) ∙ c .before .before .before .before .before .before .before .end .given .1) (c .before .before .before .before .before .if1 .left) _ (sym (c .before .before .before .before .pass-extended .ensures) ∙ c .before .before .last .given .1) (c .if2 .taken))
 
 -- src/sample.rt:32:35
 slice-aggregate-write-joined : tie.Need-slice-aggregate-write-joined
@@ -62,7 +63,7 @@ same-length c = search needs
 
 -- src/sample.rt:11:1
 returns-5 : tie.Need-returns-5
-returns-5 c = c .before .before .write-joined .ensures ∙ is-allowed _ _ _ (flow-allowed _ _ _ _ (sym (c .before .before .before .before .before .before .before .before .before .before .before .before .before .before .before .pass-packet .ensures) ∙ c .before .before .before .before .before .before .before .before .before .before .before .before .before .end .given .1) (c .before .before .before .before .before .before .before .before .before .before .before .if1 .left) _ (sym (c .before .before .before .before .before .before .before .before .before .before .pass-extended .ensures) ∙ c .before .before .before .before .before .before .before .before .last .given .1) (c .before .before .before .before .before .before .if2 .left))
+returns-5 c = c .before .before .write-joined .ensures ∙ written-value _ _ _ (flow-allowed _ _ _ _ (sym (c .before .before .before .before .before .before .before .before .before .before .before .before .before .before .before .pass-packet .ensures) ∙ c .before .before .before .before .before .before .before .before .before .before .before .before .before .end .given .1) (c .before .before .before .before .before .before .before .before .before .before .before .if1 .left) _ (sym (c .before .before .before .before .before .before .before .before .before .before .pass-extended .ensures) ∙ c .before .before .before .before .before .before .before .before .last .given .1) (c .before .before .before .before .before .before .if2 .left))
 
 pub write-flow-spec : {M : Type 1} → statement M
 write-flow-spec =

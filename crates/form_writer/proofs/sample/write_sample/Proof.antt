@@ -1,5 +1,5 @@
 use Rattle.form_writer.proofs.OneSample.{sample-refused, sample-not-one, sample-one, front-done, front-full}
-use Rattle.form_writer.proofs.Flows.{not-allowed, is-allowed}
+use Rattle.form_writer.proofs.Allowances.{refused-value, written-value}
 use mathlib.Core.Path.{sym, _∙_}
 use borrow.Author.Needs.{needs}
 use Rattle.form_writer.proofs.sample.write_sample.Statement.{statement}
@@ -19,11 +19,11 @@ enum-told c = search needs
 
 -- src/sample.rt:43:9
 returns : tie.Need-returns
-returns c = not-allowed _ _ _ (sample-refused _ _ _ (sym (c .before .before .pass-sample .ensures) ∙ c .enum-told .given .1))
+returns c = refused-value _ _ _ (sample-refused _ _ _ (sym (c .before .before .pass-sample .ensures) ∙ c .enum-told .given .1))
 
 -- src/sample.rt:46:9
 returns-2 : tie.Need-returns-2
-returns-2 c = not-allowed _ _ _ (sample-not-one _ _ (sym (c .before .before .before .before .pass-sample .ensures) ∙ c .before .before .end .given .1) (c .if1 .taken))
+returns-2 c = refused-value _ _ _ (sample-not-one _ _ (sym (c .before .before .before .before .pass-sample .ensures) ∙ c .before .before .end .given .1) (c .if1 .taken))
 
 -- src/sample.rt:48:11
 write-octets-requires : tie.Need-write-octets-requires
@@ -43,7 +43,7 @@ same-length c = search needs
 
 -- src/sample.rt:39:1
 returns-3 : tie.Need-returns-3
-returns-3 c = front-done _ _ _ _ _ (c .before .before .before .before .before .write-octets .ensures) (c .before .n .given .1) ∙ is-allowed _ _ _ (sample-one _ _ (sym (c .before .before .before .before .before .before .before .before .before .before .before .pass-sample .ensures) ∙ c .before .before .before .before .before .before .before .before .before .end .given .1) (c .before .before .before .before .before .before .before .if1 .left))
+returns-3 c = front-done _ _ _ _ _ (c .before .before .before .before .before .write-octets .ensures) (c .before .n .given .1) ∙ written-value _ _ _ (sample-one _ _ (sym (c .before .before .before .before .before .before .before .before .before .before .before .pass-sample .ensures) ∙ c .before .before .before .before .before .before .before .before .before .end .given .1) (c .before .before .before .before .before .before .before .if1 .left))
 
 -- src/sample.rt:39:1
 same-length-2 : tie.Need-same-length-2
@@ -51,7 +51,7 @@ same-length-2 c = search needs
 
 -- src/sample.rt:39:1
 returns-4 : tie.Need-returns-4
-returns-4 c = front-full _ _ _ _ (c .before .before .before .before .write-octets .ensures) (c .enum-told2 .given .1) ∙ is-allowed _ _ _ (sample-one _ _ (sym (c .before .before .before .before .before .before .before .before .before .before .pass-sample .ensures) ∙ c .before .before .before .before .before .before .before .before .end .given .1) (c .before .before .before .before .before .before .if1 .left))
+returns-4 c = front-full _ _ _ _ (c .before .before .before .before .write-octets .ensures) (c .enum-told2 .given .1) ∙ written-value _ _ _ (sample-one _ _ (sym (c .before .before .before .before .before .before .before .before .before .before .pass-sample .ensures) ∙ c .before .before .before .before .before .before .before .before .end .given .1) (c .before .before .before .before .before .before .if1 .left))
 
 pub write-sample-spec : {M : Type 1} → statement M
 write-sample-spec =
