@@ -7,8 +7,3 @@ pub mod PacketOctets
 pub mod ExtendedOctets
 pub mod PathOctets
 pub mod GatewayValues
-pub mod FitTests
-pub mod NumberRuns
-pub mod CounterForms
-pub mod Flows
-pub mod OneSample

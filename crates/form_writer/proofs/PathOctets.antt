@@ -2,24 +2,21 @@
 use Prim.Native.Nat.{ℕ, suc, _+_, _-_, _%_}
 use native.Mathlib.Omega.{arith}
 use mathlib.Core.Path.{_≡_, refl, sym, ap, _∙_}
-use mathlib.Core.Bool.{false}
 use mathlib.Core.List.{List, [], _∷_, _++_, flatMap, append-assoc, append-nil}
 use lib.ListN.{length, getD, length-append}
-use lib.Dec.{eqb}
 use Rattle.xdr.specs.Numbers.{octetsOf}
 use Rattle.xdr.specs.Items.{padded}
 use Rattle.xdr.specs.Writes.{paddedOctets}
 use Rattle.xdr.proofs.Octets.{octets-length}
-use Rattle.sflow.specs.declared.Refusal.{Refusal}
 use Rattle.sflow.specs.Grammar.{Form, list, Value, octetsOfEach, encode}
-use Rattle.sflow.specs.Decode.{Decoded, entries, decode}
+use Rattle.sflow.specs.Decode.{entries, decode}
 use Rattle.sflow.specs.Datagram.{word, as-path-type}
 use Rattle.sflow.proofs.Ends.{entries-end-is}
-use Rattle.fields.specs.declared.strings.Passed.the-variants.{Next, Refused}
+use Rattle.fields.specs.declared.strings.Passed.the-variants.{Next}
 use Rattle.fields.specs.Parts.{asPassed}
-use Rattle.fields.proofs.Passing.{passed-next, passed-refused}
+use Rattle.fields.proofs.Passing.{passed-next}
 use Rattle.form_writer.specs.Parts.{wordsOctets, partsOctets}
-use Rattle.form_writer.specs.Values.{endsAt, wordsValue, segmentValue, gatewayOctets}
+use Rattle.form_writer.specs.Values.{wordsValue, segmentValue, gatewayOctets}
 
 -- ---- words
 
@@ -117,13 +114,3 @@ pub gateway-octets : (words : List ℕ) (count : ℕ) (path communities : List �
 gateway-octets words count path communities preference h m =
     three-octets (getD words 0 0) (getD words 1 0) (getD words 2 0) count path communities preference m
     ∙ ap (λ (ws : List ℕ). gatewayOctets ws count path communities preference) (sym (three-words words h))
-
--- ---- what passing over the path says
-
--- entries that are refused are not all of the octets
-pub path-refused : {A : Type 0} (d : Decoded A) (end : ℕ) (why : Refusal) (p : ℕ) → asPassed d ≡ Refused why p → endsAt end d ≡ false
-path-refused d end why p e = rw (passed-refused d why p e)
-
--- entries that are there are all of the octets where they end behind the last
-pub path-passed : {A : Type 0} (d : Decoded A) (end next : ℕ) → asPassed d ≡ Next next → endsAt end d ≡ eqb next end
-path-passed d end next e = rw (passed-next d next e .1)

@@ -1,4 +1,2 @@
 pub mod Parts
 pub mod Values
-pub mod FlowValues
-pub mod CounterValues

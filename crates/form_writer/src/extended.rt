@@ -4,7 +4,6 @@ use extended_data::Router;
 use extended_data::Switch;
 use fields::strings::Passed;
 ghost use mathlib.Core.Path.{_≡_};
-ghost use lib.ListN.{length};
 ghost use Rattle.sflow.specs.Grammar.{encode};
 ghost use Rattle.sflow.specs.Datagram.{as-path-type, extended-data-type};
 ghost use Rattle.form_writer.specs.Parts.{outcome, writeAlone, writeValue};

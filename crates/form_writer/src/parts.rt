@@ -6,7 +6,7 @@ ghost use lib.ListN.{length};
 ghost use mathlib.Core.List.{_++_};
 ghost use Rattle.xdr.specs.Items.{padded};
 ghost use Rattle.xdr.specs.Writes.{stored, paddedOctets};
-ghost use Rattle.form_writer.specs.Parts.{outcome, writeAlone, wordsOctets, partsOctets, joinedOctets};
+ghost use Rattle.form_writer.specs.Parts.{answerNumber, outcome, writeAlone, wordsOctets, partsOctets, joinedOctets};
 
 // What a writer answers: the number of octets written, or why it wrote none.
 pub enum WriteAnswer {
@@ -19,6 +19,19 @@ pub enum WriteAnswer {
     BadValue,
     // there is no room
     NoRoom,
+}
+
+// The number of an answer; 0 where the octets are written.
+pub fn answer_number(answer: WriteAnswer) -> u32
+    ensures { λ r. ⌜ r ≡ answerNumber answer ⌝ }
+{
+    match answer {
+        WriteAnswer::Done(_) => 0,
+        WriteAnswer::NoRoom => 20,
+        WriteAnswer::BadLimit => 21,
+        WriteAnswer::BadValue => 22,
+        WriteAnswer::BadDatagram => 23,
+    }
 }
 
 // Whether six parts fit a room, one behind the other.

@@ -14,8 +14,8 @@ use Rattle.sflow.proofs.Items.{each-length}
 use Rattle.counter_data.proofs.Bodies.{widthsOf}
 use Rattle.form_writer.specs.declared.parts.WriteAnswer.the-variants.{Done, NoRoom}
 use Rattle.form_writer.specs.Parts.{outcome, wordsOctets}
-use Rattle.form_writer.specs.CounterValues.{countersValue}
-use Rattle.form_writer.proofs.CounterForms.{counters-octets}
+use Rattle.sample_writer.specs.CounterValues.{countersValue}
+use Rattle.sample_writer.proofs.CounterForms.{counters-octets}
 use Rattle.writer.specs.Datagrams.{limitAllowed}
 use Rattle.writer.specs.Rewriting.{withSamples, appendNext, appendedAll}
 use Rattle.writer.proofs.Theorems.{holds, append-all, append-full, encoded-total}

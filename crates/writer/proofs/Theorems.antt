@@ -27,7 +27,7 @@ use Rattle.fields.specs.declared.address.Address.{Address}
 use Rattle.form_writer.specs.declared.parts.WriteAnswer.the-variants.{Done, NoRoom}
 use Rattle.form_writer.specs.Parts.{Outcome, outcome, writeAlone}
 use Rattle.form_writer.specs.Values.{addressAllowed}
-use Rattle.form_writer.specs.FlowValues.{isOne}
+use Rattle.sample_writer.specs.FlowValues.{isOne}
 use Rattle.writer.specs.declared.Checked.the-variants.{Ready}
 use Rattle.writer.specs.Datagrams.{limitAllowed, startValue, started, countAt, checkedAt, appended}
 use Rattle.writer.specs.Rewriting.{withSamples, appendedAll}

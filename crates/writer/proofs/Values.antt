@@ -13,7 +13,7 @@ use Rattle.sflow.proofs.Theorems.{encoded-is-read}
 use Rattle.reader.specs.declared.sample.FlowWords.{FlowWords}
 use Rattle.form_writer.specs.Parts.{wordsOctets, joinedOctets}
 use Rattle.form_writer.specs.Values.{areEntries}
-use Rattle.form_writer.specs.FlowValues.{isOne, flowAllowed, flowOctets}
+use Rattle.sample_writer.specs.FlowValues.{isOne, flowAllowed, flowOctets}
 
 -- the octets of a value are exactly one
 pub one-again : (g : Form) (v : Value g) → Valid g v → isOne g (encode g v) ≡ true

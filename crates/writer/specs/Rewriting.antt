@@ -5,7 +5,7 @@ use Rattle.sflow.specs.Grammar.{Value, encode}
 use Rattle.sflow.specs.Datagram.{sample-type, sample-datagram}
 use Rattle.form_writer.specs.declared.parts.WriteAnswer.the-variants.{Done, BadLimit, BadDatagram, BadValue, NoRoom}
 use Rattle.form_writer.specs.Parts.{Outcome, outcome}
-use Rattle.form_writer.specs.FlowValues.{isOne}
+use Rattle.sample_writer.specs.FlowValues.{isOne}
 use Rattle.writer.specs.Datagrams.{appended}
 
 -- a datagram with other samples

@@ -6,12 +6,12 @@ use reader::datagram::HeadRead;
 use reader::sample::FlowWords;
 ghost use mathlib.Core.Path.{_≡_};
 ghost use lib.ListN.{length};
-ghost use Prim.Native.Nat.{_+_, _≤_};
+ghost use Prim.Native.Nat.{_+_};
 ghost use Rattle.sflow.specs.Datagram.{sample-type};
 ghost use Rattle.form_writer.specs.Parts.{outcome};
-ghost use Rattle.form_writer.specs.FlowValues.{isOne, flowAllowed, flowOctets};
+ghost use Rattle.sample_writer.specs.FlowValues.{isOne, flowAllowed, flowOctets};
 ghost use Rattle.sflow.specs.Grammar.{encode};
-ghost use Rattle.form_writer.specs.CounterValues.{countersAllowed, countersValue};
+ghost use Rattle.sample_writer.specs.CounterValues.{countersAllowed, countersValue};
 ghost use Rattle.writer.specs.Datagrams.{limitAllowed, started, checkedAt, Fitting, counted, appended};
 
 // Whether a limit is one that a datagram can have and the buffer holds.
@@ -68,7 +68,8 @@ fn check_so_far(d: &[u8], limit: usize, length: usize) -> Checked
             return Checked::NotReady(WriteAnswer::BadDatagram);
         }
         let HeadRead::Found(head) = reader::datagram::read(&d[..length]) else {
-            return Checked::NotReady(WriteAnswer::BadDatagram);
+            let unread = WriteAnswer::BadDatagram;
+            return Checked::NotReady(unread);
         };
         let samples = head.samples;
         return Checked::Ready(samples.at - 4, samples.count + 1);
@@ -106,7 +107,7 @@ pub fn append_octets(d: &mut [u8], limit: usize, length: usize, sample: &[u8]) -
     match check_so_far(d, limit, length) {
         Checked::NotReady(why) => why,
         Checked::Ready(at, count) => {
-            let answer = form_writer::sample::write_sample(&mut d[length..limit], sample);
+            let answer = sample_writer::sample::write_sample(&mut d[length..limit], sample);
             raise_count(d, at, count, length, answer)
         }
     }
@@ -128,7 +129,7 @@ pub fn append_flow(
     match check_so_far(d, limit, length) {
         Checked::NotReady(why) => why,
         Checked::Ready(at, samples) => {
-            let answer = form_writer::sample::write_flow(
+            let answer = sample_writer::sample::write_flow(
                 &mut d[length..limit],
                 words,
                 packet,
@@ -157,7 +158,7 @@ pub fn append_counters(
     match check_so_far(d, limit, length) {
         Checked::NotReady(why) => why,
         Checked::Ready(at, samples) => {
-            let answer = form_writer::counters::write_counters(
+            let answer = sample_writer::counters::write_counters(
                 &mut d[length..limit],
                 sequence_number,
                 source_id,

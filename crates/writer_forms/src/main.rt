@@ -140,6 +140,18 @@ fn addresses(d: &mut [u8]) {
     );
 }
 
+// A router whose next hop is an address of a type.
+fn router(kind: u32) -> Router {
+    Router {
+        nexthop: Address {
+            kind: kind,
+            octets: quad(),
+        },
+        src_mask: 24,
+        dst_mask: 16,
+    }
+}
+
 fn switches(d: &mut [u8]) {
     let a = form_writer::extended::write_switch(
         d,
@@ -156,18 +168,7 @@ fn switches(d: &mut [u8]) {
         a,
         b"\0\0\0\x01\0\0\0\x01\0\0\0\x02\0\0\0\x03\0\0\0\x04",
     );
-    let four = Address {
-        kind: 1,
-        octets: quad(),
-    };
-    let b = form_writer::extended::write_router(
-        d,
-        Router {
-            nexthop: four,
-            src_mask: 24,
-            dst_mask: 16,
-        },
-    );
+    let b = form_writer::extended::write_router(d, router(1));
     entry(
         b"router with IPv4",
         d,
@@ -177,18 +178,7 @@ fn switches(d: &mut [u8]) {
 }
 
 fn users(d: &mut [u8]) {
-    let six = Address {
-        kind: 2,
-        octets: quad(),
-    };
-    let c = form_writer::extended::write_router(
-        d,
-        Router {
-            nexthop: six,
-            src_mask: 24,
-            dst_mask: 16,
-        },
-    );
+    let c = form_writer::extended::write_router(d, router(2));
     entry(
         b"router with IPv6",
         d,
@@ -243,7 +233,7 @@ fn samples(d: &mut [u8]) {
     let header = b"\0\0\0\x01\0\0\0\x01\0\0\0\x40\0\0\0\x01\xff\0\0\0";
     let urls =
         b"\0\0\0\x05\0\0\0\x02\0\0\0\x02/a\0\0\0\0\0\x01\0\0\0\x01\0\0\0\x02\0\0\0\x03\0\0\0\x04";
-    let a = form_writer::sample::write_flow(d, words, header, 2, urls);
+    let a = sample_writer::sample::write_flow(d, words, header, 2, urls);
     sample(
         b"flow sample",
         d,
@@ -251,7 +241,7 @@ fn samples(d: &mut [u8]) {
         b"\0\0\0\x01\0\0\0\x01\0\0\0\x02\0\0\0\x03\0\0\0\x04\0\0\0\x05\0\0\0\x06\0\0\0\x07\0\0\0\x01\0\0\0\x01\0\0\0\x40\0\0\0\x01\xff\0\0\0\0\0\0\x02\0\0\0\x05\0\0\0\x02\0\0\0\x02/a\0\0\0\0\0\x01\0\0\0\x01\0\0\0\x02\0\0\0\x03\0\0\0\x04",
     );
     let numbers = [1u64, 72623859790382856, 3, 4, 5, 6];
-    let b = form_writer::counters::write_counters(d, 5, 6, 7, 7, &numbers);
+    let b = sample_writer::counters::write_counters(d, 5, 6, 7, 7, &numbers);
     sample(
         b"counter sample",
         d,

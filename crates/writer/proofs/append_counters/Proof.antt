@@ -1,57 +1,45 @@
 use Rattle.sflow.specs.Grammar.{encode}
 use Rattle.sflow.specs.Datagram.{sample-type}
-use Rattle.form_writer.specs.CounterValues.{countersAllowed, countersValue}
+use Rattle.sample_writer.specs.CounterValues.{countersAllowed, countersValue}
 use mathlib.Core.Path.{sym, _∙_}
 use Rattle.writer.proofs.Appends.{so-far, room-fitting, room-appended, not-appended}
 use borrow.Author.Needs.{needs}
 use Rattle.writer.proofs.append_counters.Statement.{statement}
 use Rattle.writer.proofs.append_counters.Tie as tie
 
--- src/lib.rt:135:11
 check-so-far-requires : tie.Need-check-so-far-requires
 check-so-far-requires c κs = search needs
 
--- src/lib.rt:136:27
 enum-known-why : tie.Need-enum-known-why
 enum-known-why c = search needs
 
--- src/lib.rt:137:24
 enum-known-at : tie.Need-enum-known-at
 enum-known-at c = search needs
 
--- src/lib.rt:138:64
 sub-write-counters : tie.Need-sub-write-counters
 sub-write-counters c = (so-far _ _ _ _ _ (λ i. c .before .before .before .before .before .before .slice-known .given i .fits) (sym (c .before .before .before .check-so-far .ensures) ∙ c .before .at .given .1)) .small
 
--- src/lib.rt:138:64
 part-write-counters-start : tie.Need-part-write-counters-start
 part-write-counters-start c = (so-far _ _ _ _ _ (λ i. c .before .before .before .before .before .before .slice-known .given i .fits) (sym (c .before .before .before .check-so-far .ensures) ∙ c .before .at .given .1)) .small
 
--- src/lib.rt:138:64
 part-write-counters-end : tie.Need-part-write-counters-end
 part-write-counters-end c = (so-far _ _ _ _ _ (λ i. c .before .before .before .before .before .before .slice-known .given i .fits) (sym (c .before .before .before .check-so-far .ensures) ∙ c .before .at .given .1)) .inside
 
--- src/lib.rt:138:17
 write-counters-requires : tie.Need-write-counters-requires
 write-counters-requires c κs = search needs
 
--- src/lib.rt:139:13
 raise-count-requires : tie.Need-raise-count-requires
 raise-count-requires c κs = room-fitting _ _ _ _ (so-far _ _ _ _ _ (λ i. c .before .before .before .before .before .before .before .before .before .before .before .slice-known .given i .fits) (sym (c .before .before .before .before .before .before .before .before .check-so-far .ensures) ∙ c .before .before .before .before .before .before .at .given .1)) (countersAllowed (c .before .before .before .before .before .before .before .before .before .before .before .before .args .version) (c .before .before .before .before .before .before .before .before .before .before .before .before .args .numbers .now)) (encode sample-type (countersValue (c .before .before .before .before .before .before .before .before .before .before .before .before .args .sequence-number) (c .before .before .before .before .before .before .before .before .before .before .before .before .args .source-id) (c .before .before .before .before .before .before .before .before .before .before .before .before .args .sampling-interval) (c .before .before .before .before .before .before .before .before .before .before .before .before .args .version) (c .before .before .before .before .before .before .before .before .before .before .before .before .args .numbers .now))) _ _ (c .before .before .before .write-counters .ensures)
 
--- src/lib.rt:120:1
 same-length : tie.Need-same-length
 same-length c = search needs
 
--- src/lib.rt:120:1
 returns : tie.Need-returns
 returns c = not-appended _ _ _ _ _ _ (sym (c .before .why .given .1) ∙ c .before .before .before .check-so-far .ensures)
 
--- src/lib.rt:120:1
 same-length-2 : tie.Need-same-length-2
 same-length-2 c = search needs
 
--- src/lib.rt:120:1
 returns-2 : tie.Need-returns-2
 returns-2 c = room-appended _ _ _ _ (so-far _ _ _ _ _ (λ i. c .before .before .before .before .before .before .before .before .before .before .before .before .before .before .slice-known .given i .fits) (sym (c .before .before .before .before .before .before .before .before .before .before .before .check-so-far .ensures) ∙ c .before .before .before .before .before .before .before .before .before .at .given .1)) _ _ _ _ _ _ (sym (c .before .before .before .before .before .before .before .before .before .at .given .1) ∙ c .before .before .before .before .before .before .before .before .before .before .before .check-so-far .ensures) (c .before .before .before .before .before .before .write-counters .ensures) (c .before .before .raise-count .ensures)
 

@@ -1,55 +1,43 @@
-use Rattle.form_writer.specs.FlowValues.{flowAllowed, flowOctets}
+use Rattle.sample_writer.specs.FlowValues.{flowAllowed, flowOctets}
 use mathlib.Core.Path.{sym, _∙_}
 use Rattle.writer.proofs.Appends.{so-far, room-fitting, room-appended, not-appended}
 use borrow.Author.Needs.{needs}
 use Rattle.writer.proofs.append_flow.Statement.{statement}
 use Rattle.writer.proofs.append_flow.Tie as tie
 
--- src/lib.rt:110:11
 check-so-far-requires : tie.Need-check-so-far-requires
 check-so-far-requires c κs = search needs
 
--- src/lib.rt:111:27
 enum-known-why : tie.Need-enum-known-why
 enum-known-why c = search needs
 
--- src/lib.rt:112:24
 enum-known-at : tie.Need-enum-known-at
 enum-known-at c = search needs
 
--- src/lib.rt:113:58
 sub-write-flow : tie.Need-sub-write-flow
 sub-write-flow c = (so-far _ _ _ _ _ (λ i. c .before .before .before .before .before .before .before .slice-known .given i .fits) (sym (c .before .before .before .check-so-far .ensures) ∙ c .before .at .given .1)) .small
 
--- src/lib.rt:113:58
 part-write-flow-start : tie.Need-part-write-flow-start
 part-write-flow-start c = (so-far _ _ _ _ _ (λ i. c .before .before .before .before .before .before .before .slice-known .given i .fits) (sym (c .before .before .before .check-so-far .ensures) ∙ c .before .at .given .1)) .small
 
--- src/lib.rt:113:58
 part-write-flow-end : tie.Need-part-write-flow-end
 part-write-flow-end c = (so-far _ _ _ _ _ (λ i. c .before .before .before .before .before .before .before .slice-known .given i .fits) (sym (c .before .before .before .check-so-far .ensures) ∙ c .before .at .given .1)) .inside
 
--- src/lib.rt:113:17
 write-flow-requires : tie.Need-write-flow-requires
 write-flow-requires c κs = search needs
 
--- src/lib.rt:114:13
 raise-count-requires : tie.Need-raise-count-requires
 raise-count-requires c κs = room-fitting _ _ _ _ (so-far _ _ _ _ _ (λ i. c .before .before .before .before .before .before .before .before .before .before .before .before .slice-known .given i .fits) (sym (c .before .before .before .before .before .before .before .before .check-so-far .ensures) ∙ c .before .before .before .before .before .before .at .given .1)) (flowAllowed (c .before .before .before .before .before .before .before .before .before .before .before .before .before .args .packet .now) (c .before .before .before .before .before .before .before .before .before .before .before .before .before .args .count) (c .before .before .before .before .before .before .before .before .before .before .before .before .before .args .extended .now)) (flowOctets (c .before .before .before .before .before .before .before .before .before .before .before .before .before .args .words) (c .before .before .before .before .before .before .before .before .before .before .before .before .before .args .packet .now) (c .before .before .before .before .before .before .before .before .before .before .before .before .before .args .count) (c .before .before .before .before .before .before .before .before .before .before .before .before .before .args .extended .now)) _ _ (c .before .before .before .write-flow .ensures)
 
--- src/lib.rt:104:1
 same-length : tie.Need-same-length
 same-length c = search needs
 
--- src/lib.rt:104:1
 returns : tie.Need-returns
 returns c = not-appended _ _ _ _ _ _ (sym (c .before .why .given .1) ∙ c .before .before .before .check-so-far .ensures)
 
--- src/lib.rt:104:1
 same-length-2 : tie.Need-same-length-2
 same-length-2 c = search needs
 
--- src/lib.rt:104:1
 returns-2 : tie.Need-returns-2
 returns-2 c = room-appended _ _ _ _ (so-far _ _ _ _ _ (λ i. c .before .before .before .before .before .before .before .before .before .before .before .before .before .before .before .slice-known .given i .fits) (sym (c .before .before .before .before .before .before .before .before .before .before .before .check-so-far .ensures) ∙ c .before .before .before .before .before .before .before .before .before .at .given .1)) _ _ _ _ _ _ (sym (c .before .before .before .before .before .before .before .before .before .at .given .1) ∙ c .before .before .before .before .before .before .before .before .before .before .before .check-so-far .ensures) (c .before .before .before .before .before .before .write-flow .ensures) (c .before .before .raise-count .ensures)
 

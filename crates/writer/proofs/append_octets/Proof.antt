@@ -1,56 +1,44 @@
 use Rattle.sflow.specs.Datagram.{sample-type}
-use Rattle.form_writer.specs.FlowValues.{isOne}
+use Rattle.sample_writer.specs.FlowValues.{isOne}
 use mathlib.Core.Path.{sym, _∙_}
 use Rattle.writer.proofs.Appends.{so-far, room-fitting, room-appended, not-appended}
 use borrow.Author.Needs.{needs}
 use Rattle.writer.proofs.append_octets.Statement.{statement}
 use Rattle.writer.proofs.append_octets.Tie as tie
 
--- src/lib.rt:87:11
 check-so-far-requires : tie.Need-check-so-far-requires
 check-so-far-requires c κs = search needs
 
--- src/lib.rt:88:27
 enum-known-why : tie.Need-enum-known-why
 enum-known-why c = search needs
 
--- src/lib.rt:89:24
 enum-known-at : tie.Need-enum-known-at
 enum-known-at c = search needs
 
--- src/lib.rt:90:60
 sub-write-sample : tie.Need-sub-write-sample
 sub-write-sample c = (so-far _ _ _ _ _ (λ i. c .before .before .before .before .before .before .slice-known .given i .fits) (sym (c .before .before .before .check-so-far .ensures) ∙ c .before .at .given .1)) .small
 
--- src/lib.rt:90:60
 part-write-sample-start : tie.Need-part-write-sample-start
 part-write-sample-start c = (so-far _ _ _ _ _ (λ i. c .before .before .before .before .before .before .slice-known .given i .fits) (sym (c .before .before .before .check-so-far .ensures) ∙ c .before .at .given .1)) .small
 
--- src/lib.rt:90:60
 part-write-sample-end : tie.Need-part-write-sample-end
 part-write-sample-end c = (so-far _ _ _ _ _ (λ i. c .before .before .before .before .before .before .slice-known .given i .fits) (sym (c .before .before .before .check-so-far .ensures) ∙ c .before .at .given .1)) .inside
 
--- src/lib.rt:90:17
 write-sample-requires : tie.Need-write-sample-requires
 write-sample-requires c κs = search needs
 
--- src/lib.rt:91:13
 raise-count-requires : tie.Need-raise-count-requires
 raise-count-requires c κs = room-fitting _ _ _ _ (so-far _ _ _ _ _ (λ i. c .before .before .before .before .before .before .before .before .before .before .before .slice-known .given i .fits) (sym (c .before .before .before .before .before .before .before .before .check-so-far .ensures) ∙ c .before .before .before .before .before .before .at .given .1)) (isOne sample-type (c .before .before .before .before .before .before .before .before .before .before .before .before .args .sample .now)) (c .before .before .before .before .before .before .before .before .before .before .before .before .args .sample .now) _ _ (c .before .before .before .write-sample .ensures)
 
--- src/lib.rt:84:1
 same-length : tie.Need-same-length
 same-length c = search needs
 
--- src/lib.rt:84:1
 returns : tie.Need-returns
 returns c = not-appended _ _ _ _ _ _ (sym (c .before .why .given .1) ∙ c .before .before .before .check-so-far .ensures)
 
--- src/lib.rt:84:1
 same-length-2 : tie.Need-same-length-2
 same-length-2 c = search needs
 
--- src/lib.rt:84:1
 returns-2 : tie.Need-returns-2
 returns-2 c = room-appended _ _ _ _ (so-far _ _ _ _ _ (λ i. c .before .before .before .before .before .before .before .before .before .before .before .before .before .before .slice-known .given i .fits) (sym (c .before .before .before .before .before .before .before .before .before .before .before .check-so-far .ensures) ∙ c .before .before .before .before .before .before .before .before .before .at .given .1)) _ _ _ _ _ _ (sym (c .before .before .before .before .before .before .before .before .before .at .given .1) ∙ c .before .before .before .before .before .before .before .before .before .before .before .check-so-far .ensures) (c .before .before .before .before .before .before .write-sample .ensures) (c .before .before .raise-count .ensures)
 

@@ -1,57 +1,44 @@
 use lib.ListN.{length, take, length-take}
-use lib.ListN.{length, length-take}
 use Prim.Native.Nat.{_≤_}
 use Rattle.writer.proofs.SoFar.{so-far-limit, so-far-long, so-far-refused, so-far-found, head-at, head-few}
 use Rattle.writer.proofs.Limits.{limit-allowed}
 use Rattle.sflow.proofs.Slices.{octets-take}
-use lib.ListN.{length-take}
 use mathlib.Core.Path.{sym, _∙_}
 use native.Mathlib.Omega.{arith}
 use borrow.Author.Needs.{needs}
 use Rattle.writer.proofs.check_so_far.Statement.{statement}
 use Rattle.writer.proofs.check_so_far.Tie as tie
 
--- src/lib.rt:57:8
 limit-allowed-requires : tie.Need-limit-allowed-requires
 limit-allowed-requires c κs = search needs
 
--- src/lib.rt:59:13
 returns : tie.Need-returns
 returns c = so-far-long _ _ _ (sym (c .before .before .limit-allowed .ensures) ∙ c .before .if1 .taken) (c .if2 .taken)
 
--- src/lib.rt:61:60
 slice-aggregate-read : tie.Need-slice-aggregate-read
 slice-aggregate-read c = let h : c .before .before .before .before .before .args .limit ≤ length (c .before .before .before .before .before .args .d .now) = limit-allowed _ _ (sym (c .before .before .before .limit-allowed .ensures) ∙ c .before .before .if1 .taken) .inside in rw length-take (omega arith)
 
--- src/lib.rt:61:37
 read-requires : tie.Need-read-requires
 read-requires c κs = search needs
 
--- src/lib.rt:61:29
 enum-known-head : tie.Need-enum-known-head
 enum-known-head c = search needs
 
--- src/lib.rt:62:38
 enum-told : tie.Need-enum-told
 enum-told c = search needs
 
--- src/lib.rt:62:13
 returns-2 : tie.Need-returns-2
 returns-2 c = so-far-refused _ _ _ (sym (c .before .before .before .before .before .before .limit-allowed .ensures) ∙ c .before .before .before .before .before .if1 .taken) (c .before .before .before .before .if2 .left) _ _ (sym (c .before .before .read .ensures) ∙ c .enum-told .given .1)
 
--- src/lib.rt:65:31
 sub-t14 : tie.Need-sub-t14
 sub-t14 c = head-at _ _ (sym (c .before .before .before .before .before .read .ensures) ∙ c .before .before .before .head .given .1)
 
--- src/lib.rt:65:47
 add-t15 : tie.Need-add-t15
 add-t15 c = let f = head-few (take (c .before .before .before .before .before .before .before .before .before .before .before .before .args .length) (c .before .before .before .before .before .before .before .before .before .before .before .before .args .d .now)) (octets-take (c .before .before .before .before .before .before .before .before .before .before .before .before .args .length) (c .before .before .before .before .before .before .before .before .before .before .before .before .args .d .now) (λ i. c .before .before .before .before .before .before .before .before .before .before .before .shared-slice-known .given i .fits)) _ (sym (c .before .before .before .before .before .before .read .ensures) ∙ c .before .before .before .before .head .given .1) in omega arith
 
--- src/lib.rt:65:9
 returns-3 : tie.Need-returns-3
 returns-3 c = so-far-found _ _ _ (sym (c .before .before .before .before .before .before .before .before .before .before .limit-allowed .ensures) ∙ c .before .before .before .before .before .before .before .before .before .if1 .taken) (c .before .before .before .before .before .before .before .before .if2 .left) _ (sym (c .before .before .before .before .before .before .read .ensures) ∙ c .before .before .before .before .head .given .1)
 
--- src/lib.rt:54:1
 returns-4 : tie.Need-returns-4
 returns-4 c = so-far-limit _ _ _ (sym (c .before .limit-allowed .ensures) ∙ c .if1 .left)
 

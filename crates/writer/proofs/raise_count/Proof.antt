@@ -4,55 +4,42 @@ use borrow.Author.Needs.{needs}
 use Rattle.writer.proofs.raise_count.Statement.{statement}
 use Rattle.writer.proofs.raise_count.Tie as tie
 
--- src/lib.rt:77:27
 enum-known-answer : tie.Need-enum-known-answer
 enum-known-answer c = search needs
 
--- src/lib.rt:78:13
 write-word-requires : tie.Need-write-word-requires
 write-word-requires c κs = search needs
 
--- src/lib.rt:79:31
 add-t11 : tie.Need-add-t11
 add-t11 c = let h = c .before .before .before .before .before .before .before .before .pre .end _ (c .before .before .before .before .before .answer .given .1) in omega arith
 
--- src/lib.rt:81:34
 enum-told : tie.Need-enum-told
 enum-told c = search needs
 
--- src/lib.rt:82:37
 enum-told-2 : tie.Need-enum-told-2
 enum-told-2 c = search needs
 
--- src/lib.rt:83:34
 enum-told-3 : tie.Need-enum-told-3
 enum-told-3 c = search needs
 
--- src/lib.rt:84:32
 enum-told-4 : tie.Need-enum-told-4
 enum-told-4 c = search needs
 
--- src/lib.rt:72:1
 same-length : tie.Need-same-length
 same-length c = search needs
 
--- src/lib.rt:72:1
 returns : tie.Need-returns
 returns c = counted-done _ _ _ _ _ _ _ _ (c .before .before .before .before .before .answer .given .1) (c .before .before .before .before .before .before .before .before .pre) (c .before .before .write-word .ensures)
 
--- src/lib.rt:72:1
 returns-2 : tie.Need-returns-2
 returns-2 c = counted-limit _ _ _ _ _ (c .enum-told .given .1)
 
--- src/lib.rt:72:1
 returns-3 : tie.Need-returns-3
 returns-3 c = counted-datagram _ _ _ _ _ (c .enum-told2 .given .1)
 
--- src/lib.rt:72:1
 returns-4 : tie.Need-returns-4
 returns-4 c = counted-value _ _ _ _ _ (c .enum-told3 .given .1)
 
--- src/lib.rt:72:1
 returns-5 : tie.Need-returns-5
 returns-5 c = counted-room _ _ _ _ _ (c .enum-told4 .given .1)
 

@@ -4,47 +4,36 @@ use borrow.Author.Needs.{needs}
 use Rattle.writer.proofs.start.Statement.{statement}
 use Rattle.writer.proofs.start.Tie as tie
 
--- src/lib.rt:31:8
 limit-allowed-requires : tie.Need-limit-allowed-requires
 limit-allowed-requires c κs = search needs
 
--- src/lib.rt:36:55
 slice-aggregate-write-words : tie.Need-slice-aggregate-write-words
 slice-aggregate-write-words c = search needs
 
--- src/lib.rt:36:13
 write-words-requires : tie.Need-write-words-requires
 write-words-requires c κs = search needs
 
--- src/lib.rt:36:13
 same-length : tie.Need-same-length
 same-length c = search needs
 
--- src/lib.rt:36:13
 returns : tie.Need-returns
 returns c = c .before .before .write-words .ensures ∙ start-ipv4 _ _ _ _ _ (sym (c .before .before .before .before .before .before .before .before .limit-allowed .ensures) ∙ c .before .before .before .before .before .before .before .if1 .taken) (c .before .before .before .before .before .if2 .taken)
 
--- src/lib.rt:40:55
 slice-aggregate-write-words-2 : tie.Need-slice-aggregate-write-words-2
 slice-aggregate-write-words-2 c = search needs
 
--- src/lib.rt:40:13
 write-words-requires-2 : tie.Need-write-words-requires-2
 write-words-requires-2 c κs = search needs
 
--- src/lib.rt:40:13
 same-length-2 : tie.Need-same-length-2
 same-length-2 c = search needs
 
--- src/lib.rt:40:13
 returns-2 : tie.Need-returns-2
 returns-2 c = c .before .before .write-words2 .ensures ∙ start-ipv6 _ _ _ _ _ (sym (c .before .before .before .before .before .before .before .before .before .limit-allowed .ensures) ∙ c .before .before .before .before .before .before .before .before .if1 .taken) (c .before .before .before .before .before .if3 .taken) (search needs) (search needs) (search needs)
 
--- src/lib.rt:42:9
 returns-3 : tie.Need-returns-3
 returns-3 c = start-other _ _ _ _ _ (sym (c .before .before .before .before .limit-allowed .ensures) ∙ c .before .before .before .if1 .taken) (c .before .if2 .left) (c .if3 .left)
 
--- src/lib.rt:28:1
 returns-4 : tie.Need-returns-4
 returns-4 c = start-limit _ _ _ _ _ (sym (c .before .limit-allowed .ensures) ∙ c .if1 .left)
 

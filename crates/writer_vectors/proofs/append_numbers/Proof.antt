@@ -4,27 +4,21 @@ use borrow.Author.Needs.{needs}
 use Rattle.writer_vectors.proofs.append_numbers.Statement.{statement}
 use Rattle.writer_vectors.proofs.append_numbers.Tie as tie
 
--- src/main.rt:114:9
 returns : tie.Need-returns
 returns c = search needs
 
--- src/main.rt:116:9
 slice-aggregate-part : tie.Need-slice-aggregate-part
 slice-aggregate-part c = rw length-take (omega arith)
 
--- src/main.rt:117:9
 append-counters-requires : tie.Need-append-counters-requires
 append-counters-requires c κs = search needs
 
--- src/main.rt:118:5
 written-requires : tie.Need-written-requires
 written-requires c κs = search needs
 
--- src/main.rt:112:1
 same-length : tie.Need-same-length
 same-length c = search needs
 
--- src/main.rt:112:1
 returns-2 : tie.Need-returns-2
 returns-2 c = search needs
 

@@ -10,51 +10,39 @@ Inv-loop out₀ start s length₀ at₀ left₀ out length at left = size out �
 abbrev μ-loop : tie.MeasureT-loop
 μ-loop out₀ start s length₀ at₀ left₀ out length at left = left
 
--- src/main.rt:63:5
 loop-holds : tie.Need-loop-holds Inv-loop μ-loop
 loop-holds c = search needs
 
--- src/main.rt:64:33
 pass-sample-requires : tie.Need-pass-sample-requires Inv-loop μ-loop
 pass-sample-requires c κs = search needs
 
--- src/main.rt:64:26
 enum-known-end : tie.Need-enum-known-end Inv-loop μ-loop
 enum-known-end c = search needs
 
--- src/main.rt:65:13
 enum-told : tie.Need-enum-told Inv-loop μ-loop
 enum-told c = search needs
 
--- src/main.rt:65:13
 same-length : tie.Need-same-length Inv-loop μ-loop
 same-length c = search needs
 
--- src/main.rt:65:13
 returns : tie.Need-returns Inv-loop μ-loop
 returns c = search needs
 
--- src/main.rt:67:9
 append-requires : tie.Need-append-requires Inv-loop μ-loop
 append-requires c κs = search needs
 
--- src/main.rt:69:9
 sub-left : tie.Need-sub-left Inv-loop μ-loop
 sub-left c = search needs
 
--- src/main.rt:63:5
 loop-less : tie.Need-loop-less Inv-loop μ-loop
 loop-less c = search needs
 
--- src/main.rt:63:5
 loop-again : tie.Need-loop-again Inv-loop μ-loop
 loop-again c = search needs
 
--- src/main.rt:59:1
 same-length-2 : tie.Need-same-length-2 Inv-loop μ-loop
 same-length-2 c = search needs
 
--- src/main.rt:59:1
 returns-2 : tie.Need-returns-2 Inv-loop μ-loop
 returns-2 c = search needs
 

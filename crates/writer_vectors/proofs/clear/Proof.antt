@@ -11,31 +11,24 @@ Inv-loop out₀ n i₀ out i = (length out ≡ length out₀) × (n ≡ length o
 abbrev μ-loop : tie.MeasureT-loop
 μ-loop out₀ n i₀ out i = n - i
 
--- src/main.rt:182:5
 loop-holds : tie.Need-loop-holds Inv-loop μ-loop
 loop-holds c = search needs
 
--- src/main.rt:183:9
 slice-write-out : tie.Need-slice-write-out Inv-loop μ-loop
 slice-write-out c = search needs
 
--- src/main.rt:184:9
 add-i : tie.Need-add-i Inv-loop μ-loop
 add-i c = search needs
 
--- src/main.rt:182:5
 loop-less : tie.Need-loop-less Inv-loop μ-loop
 loop-less c = search needs
 
--- src/main.rt:182:5
 loop-again : tie.Need-loop-again Inv-loop μ-loop
 loop-again c = search needs
 
--- src/main.rt:179:1
 same-length : tie.Need-same-length Inv-loop μ-loop
 same-length c = search needs
 
--- src/main.rt:179:1
 returns : tie.Need-returns Inv-loop μ-loop
 returns c = search needs
 

@@ -4,27 +4,21 @@ use borrow.Author.Needs.{needs}
 use Rattle.writer_vectors.proofs.fill.Statement.{statement}
 use Rattle.writer_vectors.proofs.fill.Tie as tie
 
--- src/main.rt:260:9
 returns : tie.Need-returns
 returns c = search needs
 
--- src/main.rt:262:16
 slice-relend-prefix-part : tie.Need-slice-relend-prefix-part
 slice-relend-prefix-part c = search needs
 
--- src/main.rt:262:9
 slice-aggregate-part : tie.Need-slice-aggregate-part
 slice-aggregate-part c = rw length-take (omega arith)
 
--- src/main.rt:263:9
 read-full-requires : tie.Need-read-full-requires
 read-full-requires c κs = search needs
 
--- src/main.rt:258:1
 same-length : tie.Need-same-length
 same-length c = search needs
 
--- src/main.rt:258:1
 returns-2 : tie.Need-returns-2
 returns-2 c = search needs
 

@@ -4,59 +4,45 @@ use borrow.Author.Needs.{needs}
 use Rattle.writer_vectors.proofs.next.Statement.{statement}
 use Rattle.writer_vectors.proofs.next.Tie as tie
 
--- src/main.rt:290:9
 length-requires : tie.Need-length-requires
 length-requires c κs = search needs
 
--- src/main.rt:291:9
 fill-requires : tie.Need-fill-requires
 fill-requires c κs = search needs
 
--- src/main.rt:292:9
 no-more-requires : tie.Need-no-more-requires
 no-more-requires c κs = search needs
 
--- src/main.rt:292:9
 same-length : tie.Need-same-length
 same-length c = search needs
 
--- src/main.rt:292:9
 returns : tie.Need-returns
 returns c = search needs
 
--- src/main.rt:295:9
 no-more-requires-2 : tie.Need-no-more-requires-2
 no-more-requires-2 c κs = search needs
 
--- src/main.rt:295:9
 same-length-2 : tie.Need-same-length-2
 same-length-2 c = search needs
 
--- src/main.rt:295:9
 returns-2 : tie.Need-returns-2
 returns-2 c = search needs
 
--- src/main.rt:297:19
 slice-reshare-prefix-datagram : tie.Need-slice-reshare-prefix-datagram
 slice-reshare-prefix-datagram c = search needs
 
--- src/main.rt:297:19
 slice-aggregate-datagram : tie.Need-slice-aggregate-datagram
 slice-aggregate-datagram c = rw length-take (omega arith)
 
--- src/main.rt:297:5
 datagram-requires : tie.Need-datagram-requires
 datagram-requires c κs = search needs
 
--- src/main.rt:289:1
 same-length-3 : tie.Need-same-length-3
 same-length-3 c = search needs
 
--- src/main.rt:289:1
 same-length-4 : tie.Need-same-length-4
 same-length-4 c = search needs
 
--- src/main.rt:289:1
 returns-3 : tie.Need-returns-3
 returns-3 c = search needs
 

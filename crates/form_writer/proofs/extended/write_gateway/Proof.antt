@@ -1,82 +1,65 @@
 use borrow.Author.Needs.{needs}
 use Rattle.form_writer.proofs.Allowances.{first-fails, second-fails, both-hold, too-many, not-too-many, refused-value, allowed-value}
-use borrow.Author.Tests.{eq-eqb, ne-eqb}
 use mathlib.Core.Path.{sym, _∙_}
 use lib.ListN.{length}
 use Rattle.sflow.specs.Decode.{entries, decode}
 use Rattle.sflow.specs.Datagram.{as-path-type}
 use Rattle.form_writer.specs.Values.{areEntries}
-use Rattle.form_writer.proofs.PathOctets.{path-fours, gateway-octets, path-refused, path-passed}
+use Rattle.form_writer.proofs.Allowed.{ends-there, ends-elsewhere, ends-nowhere}
+use Rattle.form_writer.proofs.PathOctets.{path-fours, gateway-octets}
 use Rattle.form_writer.proofs.extended.write_gateway.Statement.{statement}
 use Rattle.form_writer.proofs.extended.write_gateway.Tie as tie
 
--- src/extended.rt:79:9
 pass-segments-requires : tie.Need-pass-segments-requires
 pass-segments-requires c κs = search needs
 
--- src/extended.rt:80:22
 enum-known-passed : tie.Need-enum-known-passed
 enum-known-passed c = search needs
 
--- src/extended.rt:81:9
 enum-told : tie.Need-enum-told
 enum-told c = search needs
 
--- src/extended.rt:81:9
 returns : tie.Need-returns
-returns c = refused-value _ _ _ (first-fails _ _ (path-refused (entries (decode as-path-type (c .before .before .before .before .before .before .args .path .now)) (c .before .before .before .before .before .before .args .count) 0) (length (c .before .before .before .before .before .before .args .path .now)) _ _ (sym (c .before .before .pass-segments .ensures) ∙ c .enum-told .given .1)))
+returns c = refused-value _ _ _ (first-fails _ _ (ends-nowhere (entries (decode as-path-type (c .before .before .before .before .before .before .args .path .now)) (c .before .before .before .before .before .before .args .count) 0) (length (c .before .before .before .before .before .before .args .path .now)) _ _ (sym (c .before .before .pass-segments .ensures) ∙ c .enum-told .given .1)))
 
--- src/extended.rt:84:9
 returns-2 : tie.Need-returns-2
-returns-2 c = refused-value _ _ _ (first-fails _ _ (path-passed (entries (decode as-path-type (c .before .before .before .before .before .before .before .before .args .path .now)) (c .before .before .before .before .before .before .before .before .args .count) 0) (length (c .before .before .before .before .before .before .before .before .args .path .now)) _ (sym (c .before .before .before .before .pass-segments .ensures) ∙ c .before .before .passed .given .1) ∙ ne-eqb _ _ (c .if1 .taken)))
+returns-2 c = refused-value _ _ _ (first-fails _ _ (ends-elsewhere (entries (decode as-path-type (c .before .before .before .before .before .before .before .before .args .path .now)) (c .before .before .before .before .before .before .before .before .args .count) 0) (length (c .before .before .before .before .before .before .before .before .args .path .now)) _ (sym (c .before .before .before .before .pass-segments .ensures) ∙ c .before .before .passed .given .1) (c .if1 .taken)))
 
--- src/extended.rt:87:9
 returns-3 : tie.Need-returns-3
 returns-3 c = refused-value _ _ _ (second-fails (areEntries as-path-type (c .before .before .before .before .before .before .before .before .before .args .count) (c .before .before .before .before .before .before .before .before .before .args .path .now)) _ (too-many (c .before .before .before .before .before .before .before .before .before .args .communities .now) (c .if2 .taken)))
 
--- src/extended.rt:89:20
 array-read-t18 : tie.Need-array-read-t18
 array-read-t18 c = search needs
 
--- src/extended.rt:89:30
 array-read-t21 : tie.Need-array-read-t21
 array-read-t21 c = search needs
 
--- src/extended.rt:89:40
 array-read-t24 : tie.Need-array-read-t24
 array-read-t24 c = search needs
 
--- src/extended.rt:90:19
 cast-t24 : tie.Need-cast-t24
 cast-t24 c = search needs
 
--- src/extended.rt:92:34
 slice-aggregate-write-parts : tie.Need-slice-aggregate-write-parts
 slice-aggregate-write-parts c = search needs
 
--- src/extended.rt:92:47
 slice-aggregate-write-parts-2 : tie.Need-slice-aggregate-write-parts-2
 slice-aggregate-write-parts-2 c = search needs
 
--- src/extended.rt:92:69
 slice-aggregate-write-parts-3 : tie.Need-slice-aggregate-write-parts-3
 slice-aggregate-write-parts-3 c = search needs
 
--- src/extended.rt:92:74
 slice-aggregate-write-parts-4 : tie.Need-slice-aggregate-write-parts-4
 slice-aggregate-write-parts-4 c = search needs
 
--- src/extended.rt:92:5
 write-parts-requires : tie.Need-write-parts-requires
 write-parts-requires c κs = search needs
 
--- src/extended.rt:72:1
 same-length : tie.Need-same-length
 same-length c = search needs
 
--- src/extended.rt:72:1
 returns-4 : tie.Need-returns-4
-returns-4 c = let passed = sym (c .before .before .before .before .before .before .before .before .before .before .before .before .before .pass-segments .ensures) ∙ c .before .before .before .before .before .before .before .before .before .before .before .passed .given .1 in allowed-value _ _ _ _ _ _ (both-hold _ _ (path-passed (entries (decode as-path-type (c .before .before .before .before .before .before .before .before .before .before .before .before .before .before .before .before .before .args .path .now)) (c .before .before .before .before .before .before .before .before .before .before .before .before .before .before .before .before .before .args .count) 0) (length (c .before .before .before .before .before .before .before .before .before .before .before .before .before .before .before .before .before .args .path .now)) _ passed ∙ eq-eqb _ _ (c .before .before .before .before .before .before .before .before .before .if1 .left)) (not-too-many (c .before .before .before .before .before .before .before .before .before .before .before .before .before .before .before .before .before .args .communities .now) (c .before .before .before .before .before .before .before .before .if2 .left))) (gateway-octets (c .before .before .before .before .before .before .before .before .before .before .before .before .before .before .before .before .before .args .t2) (c .before .before .before .before .before .before .before .before .before .before .before .before .before .before .before .before .before .args .count) (c .before .before .before .before .before .before .before .before .before .before .before .before .before .before .before .before .before .args .path .now) (c .before .before .before .before .before .before .before .before .before .before .before .before .before .before .before .before .before .args .communities .now) (c .before .before .before .before .before .before .before .before .before .before .before .before .before .before .before .before .before .args .localpref) (search needs) (path-fours (c .before .before .before .before .before .before .before .before .before .before .before .before .before .before .before .before .before .args .path .now) (c .before .before .before .before .before .before .before .before .before .before .before .before .before .before .before .before .before .args .count) _ passed (c .before .before .before .before .before .before .before .before .before .if1 .left))) (c .before .before .write-parts .ensures)
+returns-4 c = let passed = sym (c .before .before .before .before .before .before .before .before .before .before .before .before .before .pass-segments .ensures) ∙ c .before .before .before .before .before .before .before .before .before .before .before .passed .given .1 in allowed-value _ _ _ _ _ _ (both-hold _ _ (ends-there (entries (decode as-path-type (c .before .before .before .before .before .before .before .before .before .before .before .before .before .before .before .before .before .args .path .now)) (c .before .before .before .before .before .before .before .before .before .before .before .before .before .before .before .before .before .args .count) 0) (length (c .before .before .before .before .before .before .before .before .before .before .before .before .before .before .before .before .before .args .path .now)) _ passed (c .before .before .before .before .before .before .before .before .before .if1 .left)) (not-too-many (c .before .before .before .before .before .before .before .before .before .before .before .before .before .before .before .before .before .args .communities .now) (c .before .before .before .before .before .before .before .before .if2 .left))) (gateway-octets (c .before .before .before .before .before .before .before .before .before .before .before .before .before .before .before .before .before .args .t2) (c .before .before .before .before .before .before .before .before .before .before .before .before .before .before .before .before .before .args .count) (c .before .before .before .before .before .before .before .before .before .before .before .before .before .before .before .before .before .args .path .now) (c .before .before .before .before .before .before .before .before .before .before .before .before .before .before .before .before .before .args .communities .now) (c .before .before .before .before .before .before .before .before .before .before .before .before .before .before .before .before .before .args .localpref) (search needs) (path-fours (c .before .before .before .before .before .before .before .before .before .before .before .before .before .before .before .before .before .args .path .now) (c .before .before .before .before .before .before .before .before .before .before .before .before .before .before .before .before .before .args .count) _ passed (c .before .before .before .before .before .before .before .before .before .if1 .left))) (c .before .before .write-parts .ensures)
 
 pub write-gateway-spec : {M : Type 1} → statement M
 write-gateway-spec =

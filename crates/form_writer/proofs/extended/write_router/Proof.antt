@@ -5,39 +5,30 @@ use Rattle.form_writer.proofs.ExtendedOctets.{router-ipv4, router-ipv6}
 use Rattle.form_writer.proofs.extended.write_router.Statement.{statement}
 use Rattle.form_writer.proofs.extended.write_router.Tie as tie
 
--- src/extended.rt:40:45
 slice-aggregate-write-words : tie.Need-slice-aggregate-write-words
 slice-aggregate-write-words c = search needs
 
--- src/extended.rt:40:9
 write-words-requires : tie.Need-write-words-requires
 write-words-requires c κs = search needs
 
--- src/extended.rt:40:9
 same-length : tie.Need-same-length
 same-length c = search needs
 
--- src/extended.rt:40:9
 returns : tie.Need-returns
 returns c = allowed-value _ _ _ _ _ _ (ipv4-allowed (c .before .before .before .before .before .before .before .before .before .args .x .nexthop) (c .before .before .before .before .before .if1 .taken)) (router-ipv4 (c .before .before .before .before .before .before .before .before .before .args .x) (c .before .before .before .before .before .if1 .taken)) (c .before .before .write-words .ensures)
 
--- src/extended.rt:44:45
 slice-aggregate-write-words-2 : tie.Need-slice-aggregate-write-words-2
 slice-aggregate-write-words-2 c = search needs
 
--- src/extended.rt:44:9
 write-words-requires-2 : tie.Need-write-words-requires-2
 write-words-requires-2 c κs = search needs
 
--- src/extended.rt:44:9
 same-length-2 : tie.Need-same-length-2
 same-length-2 c = search needs
 
--- src/extended.rt:44:9
 returns-2 : tie.Need-returns-2
 returns-2 c = allowed-value _ _ _ _ _ _ (ipv6-allowed (c .before .before .before .before .before .before .before .before .before .before .args .x .nexthop) (c .before .before .before .before .before .before .if1 .left) (c .before .before .before .before .before .if2 .taken)) (router-ipv6 (c .before .before .before .before .before .before .before .before .before .before .args .x) (c .before .before .before .before .before .if2 .taken) (omega arith) (omega arith) (omega arith)) (c .before .before .write-words2 .ensures)
 
--- src/extended.rt:32:1
 returns-3 : tie.Need-returns-3
 returns-3 c = refused-value _ _ _ (other-address (c .before .before .before .before .before .args .x .nexthop) (c .before .if1 .left) (c .if2 .left))
 

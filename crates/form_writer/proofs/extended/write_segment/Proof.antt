@@ -5,51 +5,39 @@ use Rattle.form_writer.proofs.PathOctets.{segment-octets}
 use Rattle.form_writer.proofs.extended.write_segment.Statement.{statement}
 use Rattle.form_writer.proofs.extended.write_segment.Tie as tie
 
--- src/extended.rt:57:9
 returns : tie.Need-returns
 returns c = refused-value _ _ _ (first-fails _ _ (below-one _ _ (c .if1 .taken)))
 
--- src/extended.rt:60:9
 returns-2 : tie.Need-returns-2
 returns-2 c = refused-value _ _ _ (first-fails _ _ (above-most _ _ (c .if2 .taken)))
 
--- src/extended.rt:63:9
 returns-3 : tie.Need-returns-3
 returns-3 c = refused-value _ _ _ (second-fails (oneTo 2 (c .before .before .before .before .before .args .kind)) _ (too-many (c .before .before .before .before .before .args .numbers .now) (c .if3 .taken)))
 
--- src/extended.rt:65:23
 cast-t11 : tie.Need-cast-t11
 cast-t11 c = search needs
 
--- src/extended.rt:67:16
 array-share-prefix-empty : tie.Need-array-share-prefix-empty
 array-share-prefix-empty c = search needs
 
--- src/extended.rt:67:9
 slice-aggregate-none : tie.Need-slice-aggregate-none
 slice-aggregate-none c = search needs
 
--- src/extended.rt:68:34
 slice-aggregate-write-parts : tie.Need-slice-aggregate-write-parts
 slice-aggregate-write-parts c = search needs
 
--- src/extended.rt:68:41
 slice-aggregate-write-parts-2 : tie.Need-slice-aggregate-write-parts-2
 slice-aggregate-write-parts-2 c = search needs
 
--- src/extended.rt:68:61
 slice-aggregate-write-parts-3 : tie.Need-slice-aggregate-write-parts-3
 slice-aggregate-write-parts-3 c = search needs
 
--- src/extended.rt:68:5
 write-parts-requires : tie.Need-write-parts-requires
 write-parts-requires c κs = search needs
 
--- src/extended.rt:50:1
 same-length : tie.Need-same-length
 same-length c = search needs
 
--- src/extended.rt:50:1
 returns-4 : tie.Need-returns-4
 returns-4 c = allowed-value _ _ _ _ _ _ (both-hold _ _ (from-one _ _ (c .before .before .before .before .before .before .before .before .before .before .if1 .left) (c .before .before .before .before .before .before .before .before .before .if2 .left)) (not-too-many (c .before .before .before .before .before .before .before .before .before .before .before .before .before .args .numbers .now) (c .before .before .before .before .before .before .before .before .if3 .left))) (segment-octets (c .before .before .before .before .before .before .before .before .before .before .before .before .before .args .kind) (c .before .before .before .before .before .before .before .before .before .before .before .before .before .args .numbers .now)) (c .before .before .write-parts .ensures)
 

@@ -4,19 +4,15 @@ use Rattle.form_writer.proofs.ExtendedOctets.{switch-octets}
 use Rattle.form_writer.proofs.extended.write_switch.Statement.{statement}
 use Rattle.form_writer.proofs.extended.write_switch.Tie as tie
 
--- src/extended.rt:29:34
 slice-aggregate-write-words : tie.Need-slice-aggregate-write-words
 slice-aggregate-write-words c = search needs
 
--- src/extended.rt:29:5
 write-words-requires : tie.Need-write-words-requires
 write-words-requires c κs = search needs
 
--- src/extended.rt:25:1
 same-length : tie.Need-same-length
 same-length c = search needs
 
--- src/extended.rt:25:1
 returns : tie.Need-returns
 returns c = same-octets _ _ _ _ _ (switch-octets _ _ _ _) (c .before .before .write-words .ensures)
 

@@ -5,47 +5,36 @@ use Rattle.form_writer.proofs.ExtendedOctets.{url-octets}
 use Rattle.form_writer.proofs.extended.write_url.Statement.{statement}
 use Rattle.form_writer.proofs.extended.write_url.Tie as tie
 
--- src/extended.rt:121:9
 returns : tie.Need-returns
 returns c = refused-value _ _ _ (first-fails _ _ (below-one _ _ (c .if1 .taken)))
 
--- src/extended.rt:124:9
 returns-2 : tie.Need-returns-2
 returns-2 c = refused-value _ _ _ (first-fails _ _ (above-most _ _ (c .if2 .taken)))
 
--- src/extended.rt:127:9
 returns-3 : tie.Need-returns-3
 returns-3 c = refused-value _ _ _ (second-fails (oneTo 2 (c .before .before .before .before .before .args .direction)) _ (too-many (c .before .before .before .before .before .args .url .now) (c .if3 .taken)))
 
--- src/extended.rt:129:31
 cast-t10 : tie.Need-cast-t10
 cast-t10 c = search needs
 
--- src/extended.rt:131:16
 array-share-prefix-empty : tie.Need-array-share-prefix-empty
 array-share-prefix-empty c = search needs
 
--- src/extended.rt:131:9
 slice-aggregate-none : tie.Need-slice-aggregate-none
 slice-aggregate-none c = search needs
 
--- src/extended.rt:132:34
 slice-aggregate-write-parts : tie.Need-slice-aggregate-write-parts
 slice-aggregate-write-parts c = search needs
 
--- src/extended.rt:132:58
 slice-aggregate-write-parts-2 : tie.Need-slice-aggregate-write-parts-2
 slice-aggregate-write-parts-2 c = search needs
 
--- src/extended.rt:132:5
 write-parts-requires : tie.Need-write-parts-requires
 write-parts-requires c κs = search needs
 
--- src/extended.rt:114:1
 same-length : tie.Need-same-length
 same-length c = search needs
 
--- src/extended.rt:114:1
 returns-4 : tie.Need-returns-4
 returns-4 c = allowed-value _ _ _ _ _ _ (both-hold _ _ (from-one _ _ (c .before .before .before .before .before .before .before .before .before .if1 .left) (c .before .before .before .before .before .before .before .before .if2 .left)) (not-too-many (c .before .before .before .before .before .before .before .before .before .before .before .before .args .url .now) (c .before .before .before .before .before .before .before .if3 .left))) (url-octets (c .before .before .before .before .before .before .before .before .before .before .before .before .args .direction) (c .before .before .before .before .before .before .before .before .before .before .before .before .args .url .now)) (c .before .before .write-parts .ensures)
 

@@ -5,47 +5,36 @@ use Rattle.form_writer.proofs.ExtendedOctets.{user-octets}
 use Rattle.form_writer.proofs.extended.write_user.Statement.{statement}
 use Rattle.form_writer.proofs.extended.write_user.Tie as tie
 
--- src/extended.rt:102:9
 returns : tie.Need-returns
 returns c = refused-value _ _ _ (first-fails _ _ (too-many (c .before .before .before .before .args .src-user .now) (c .if1 .taken)))
 
--- src/extended.rt:105:9
 returns-2 : tie.Need-returns-2
 returns-2 c = refused-value _ _ _ (second-fails (countable (c .before .before .before .before .before .args .src-user .now)) _ (too-many (c .before .before .before .before .before .args .dst-user .now) (c .if2 .taken)))
 
--- src/extended.rt:107:20
 cast-t10 : tie.Need-cast-t10
 cast-t10 c = search needs
 
--- src/extended.rt:108:19
 cast-t10-2 : tie.Need-cast-t10-2
 cast-t10-2 c = search needs
 
--- src/extended.rt:110:16
 array-share-prefix-empty : tie.Need-array-share-prefix-empty
 array-share-prefix-empty c = search needs
 
--- src/extended.rt:110:9
 slice-aggregate-none : tie.Need-slice-aggregate-none
 slice-aggregate-none c = search needs
 
--- src/extended.rt:111:34
 slice-aggregate-write-parts : tie.Need-slice-aggregate-write-parts
 slice-aggregate-write-parts c = search needs
 
--- src/extended.rt:111:51
 slice-aggregate-write-parts-2 : tie.Need-slice-aggregate-write-parts-2
 slice-aggregate-write-parts-2 c = search needs
 
--- src/extended.rt:111:5
 write-parts-requires : tie.Need-write-parts-requires
 write-parts-requires c κs = search needs
 
--- src/extended.rt:95:1
 same-length : tie.Need-same-length
 same-length c = search needs
 
--- src/extended.rt:95:1
 returns-3 : tie.Need-returns-3
 returns-3 c = allowed-value _ _ _ _ _ _ (both-hold _ _ (not-too-many (c .before .before .before .before .before .before .before .before .before .before .before .before .args .src-user .now) (c .before .before .before .before .before .before .before .before .if1 .left)) (not-too-many (c .before .before .before .before .before .before .before .before .before .before .before .before .args .dst-user .now) (c .before .before .before .before .before .before .before .if2 .left))) (user-octets (c .before .before .before .before .before .before .before .before .before .before .before .before .args .src-user .now) (c .before .before .before .before .before .before .before .before .before .before .before .before .args .dst-user .now)) (c .before .before .write-parts .ensures)
 

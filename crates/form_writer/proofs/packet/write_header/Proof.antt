@@ -6,47 +6,36 @@ use Rattle.form_writer.proofs.PacketOctets.{header-octets}
 use Rattle.form_writer.proofs.packet.write_header.Statement.{statement}
 use Rattle.form_writer.proofs.packet.write_header.Tie as tie
 
--- src/packet.rt:19:9
 returns : tie.Need-returns
 returns c = refused-value _ _ _ (first-fails _ _ (below-one _ _ (c .if1 .taken)))
 
--- src/packet.rt:22:9
 returns-2 : tie.Need-returns-2
 returns-2 c = refused-value _ _ _ (first-fails _ _ (above-most _ _ (c .if2 .taken)))
 
--- src/packet.rt:25:9
 returns-3 : tie.Need-returns-3
 returns-3 c = refused-value _ _ _ (second-fails (oneTo 13 (c .before .before .before .before .before .args .protocol)) _ (lt-leb _ _ (c .if3 .taken)))
 
--- src/packet.rt:27:44
 cast-t11 : tie.Need-cast-t11
 cast-t11 c = search needs
 
--- src/packet.rt:29:16
 array-share-prefix-empty : tie.Need-array-share-prefix-empty
 array-share-prefix-empty c = search needs
 
--- src/packet.rt:29:9
 slice-aggregate-none : tie.Need-slice-aggregate-none
 slice-aggregate-none c = search needs
 
--- src/packet.rt:30:34
 slice-aggregate-write-parts : tie.Need-slice-aggregate-write-parts
 slice-aggregate-write-parts c = search needs
 
--- src/packet.rt:30:61
 slice-aggregate-write-parts-2 : tie.Need-slice-aggregate-write-parts-2
 slice-aggregate-write-parts-2 c = search needs
 
--- src/packet.rt:30:5
 write-parts-requires : tie.Need-write-parts-requires
 write-parts-requires c κs = search needs
 
--- src/packet.rt:12:1
 same-length : tie.Need-same-length
 same-length c = search needs
 
--- src/packet.rt:12:1
 returns-4 : tie.Need-returns-4
 returns-4 c = allowed-value _ _ _ _ _ _ (both-hold _ _ (from-one _ _ (c .before .before .before .before .before .before .before .before .before .if1 .left) (c .before .before .before .before .before .before .before .before .if2 .left)) (le-leb _ _ (c .before .before .before .before .before .before .before .if3 .left))) (header-octets _ _ _) (c .before .before .write-parts .ensures)
 

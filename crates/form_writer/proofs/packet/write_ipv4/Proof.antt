@@ -4,19 +4,15 @@ use Rattle.form_writer.proofs.PacketOctets.{ipv4-octets}
 use Rattle.form_writer.proofs.packet.write_ipv4.Statement.{statement}
 use Rattle.form_writer.proofs.packet.write_ipv4.Tie as tie
 
--- src/packet.rt:36:34
 slice-aggregate-write-words : tie.Need-slice-aggregate-write-words
 slice-aggregate-write-words c = search needs
 
--- src/packet.rt:36:5
 write-words-requires : tie.Need-write-words-requires
 write-words-requires c κs = search needs
 
--- src/packet.rt:32:1
 same-length : tie.Need-same-length
 same-length c = search needs
 
--- src/packet.rt:32:1
 returns : tie.Need-returns
 returns c = same-octets _ _ _ _ _ (ipv4-octets _ _ _ _ _ _ _ _) (c .before .before .write-words .ensures)
 

@@ -5,19 +5,15 @@ use Rattle.form_writer.proofs.PacketOctets.{ipv6-octets}
 use Rattle.form_writer.proofs.packet.write_ipv6.Statement.{statement}
 use Rattle.form_writer.proofs.packet.write_ipv6.Tie as tie
 
--- src/packet.rt:47:34
 slice-aggregate-write-words : tie.Need-slice-aggregate-write-words
 slice-aggregate-write-words c = search needs
 
--- src/packet.rt:47:5
 write-words-requires : tie.Need-write-words-requires
 write-words-requires c κs = search needs
 
--- src/packet.rt:39:1
 same-length : tie.Need-same-length
 same-length c = search needs
 
--- src/packet.rt:39:1
 returns : tie.Need-returns
 returns c = same-octets _ _ _ _ _ (ipv6-octets _ _ _ _ _ _ _ _ _ _ _ _ _ _ (omega arith) (omega arith) (omega arith) (omega arith) (omega arith) (omega arith)) (c .before .before .write-words .ensures)
 

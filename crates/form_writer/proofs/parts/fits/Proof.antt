@@ -1,30 +1,23 @@
 use Rattle.form_writer.proofs.Rooms.{last-fits, no-room}
-use Rattle.form_writer.proofs.Rooms.{last-fits}
 use native.Mathlib.Omega.{arith}
 use Rattle.form_writer.proofs.parts.fits.Statement.{statement}
 use Rattle.form_writer.proofs.parts.fits.Tie as tie
 
--- src/parts.rt:27:9
 returns : tie.Need-returns
 returns c = no-room (c .before .args .room) (c .before .args .a) (c .before .args .b) (c .before .args .c) (c .before .args .d) (c .before .args .e) (c .before .args .f) (omega arith)
 
--- src/parts.rt:31:9
 returns-2 : tie.Need-returns-2
 returns-2 c = no-room (c .before .before .args .room) (c .before .before .args .a) (c .before .before .args .b) (c .before .before .args .c) (c .before .before .args .d) (c .before .before .args .e) (c .before .before .args .f) (omega arith)
 
--- src/parts.rt:35:9
 returns-3 : tie.Need-returns-3
 returns-3 c = no-room (c .before .before .before .args .room) (c .before .before .before .args .a) (c .before .before .before .args .b) (c .before .before .before .args .c) (c .before .before .before .args .d) (c .before .before .before .args .e) (c .before .before .before .args .f) (omega arith)
 
--- src/parts.rt:39:9
 returns-4 : tie.Need-returns-4
 returns-4 c = no-room (c .before .before .before .before .args .room) (c .before .before .before .before .args .a) (c .before .before .before .before .args .b) (c .before .before .before .before .args .c) (c .before .before .before .before .args .d) (c .before .before .before .before .args .e) (c .before .before .before .before .args .f) (omega arith)
 
--- src/parts.rt:43:9
 returns-5 : tie.Need-returns-5
 returns-5 c = no-room (c .before .before .before .before .before .args .room) (c .before .before .before .before .before .args .a) (c .before .before .before .before .before .args .b) (c .before .before .before .before .before .args .c) (c .before .before .before .before .before .args .d) (c .before .before .before .before .before .args .e) (c .before .before .before .before .before .args .f) (omega arith)
 
--- src/parts.rt:23:1
 returns-6 : tie.Need-returns-6
 returns-6 c = last-fits (c .before .before .before .before .before .args .room) (c .before .before .before .before .before .args .a) (c .before .before .before .before .before .args .b) (c .before .before .before .before .before .args .c) (c .before .before .before .before .before .args .d) (c .before .before .before .before .before .args .e) (c .before .before .before .before .before .args .f) (omega arith)
 

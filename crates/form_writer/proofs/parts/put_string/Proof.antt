@@ -3,31 +3,24 @@ use borrow.Author.Needs.{needs}
 use Rattle.form_writer.proofs.parts.put_string.Statement.{statement}
 use Rattle.form_writer.proofs.parts.put_string.Tie as tie
 
--- src/parts.rt:81:18
 add-whole : tie.Need-add-whole
 add-whole c = search needs
 
--- src/parts.rt:81:17
 mul-whole : tie.Need-mul-whole
 mul-whole c = search needs
 
--- src/parts.rt:82:5
 write-padded-requires : tie.Need-write-padded-requires
 write-padded-requires c κs = search needs
 
--- src/parts.rt:83:18
 add-put-words : tie.Need-add-put-words
 add-put-words c = search needs
 
--- src/parts.rt:83:5
 put-words-requires : tie.Need-put-words-requires
 put-words-requires c κs = search needs
 
--- src/parts.rt:77:1
 same-length : tie.Need-same-length
 same-length c = search needs
 
--- src/parts.rt:77:1
 returns : tie.Need-returns
 returns c = string-put _ _ _ _ _ _ _ (c .before .before .before .before .before .before .before .before .before .before .before .pre) (c .before .before .before .before .before .before .write-padded .ensures) (c .before .before .put-words .ensures)
 

@@ -16,43 +16,33 @@ Inv-loop d₀ at ws i₀ p₀ d i p = (i ≤ length ws) × (p ≡ at + i * 4) ×
 abbrev μ-loop : tie.MeasureT-loop
 μ-loop d₀ at ws i₀ p₀ d i p = length ws - i
 
--- src/parts.rt:55:5
 loop-holds : tie.Need-loop-holds Inv-loop μ-loop
 loop-holds c = (search needs, omega arith, refl, sym (stored-nothing _ _))
 
--- src/parts.rt:56:31
 mul-write-word : tie.Need-mul-write-word Inv-loop μ-loop
 mul-write-word c = search needs
 
--- src/parts.rt:56:31
 shared-slice-read-write-word : tie.Need-shared-slice-read-write-word Inv-loop μ-loop
 shared-slice-read-write-word c = search needs
 
--- src/parts.rt:56:9
 write-word-requires : tie.Need-write-word-requires Inv-loop μ-loop
 write-word-requires c κs = search needs
 
--- src/parts.rt:57:9
 add-p : tie.Need-add-p Inv-loop μ-loop
 add-p c = search needs
 
--- src/parts.rt:58:9
 add-i : tie.Need-add-i Inv-loop μ-loop
 add-i c = search needs
 
--- src/parts.rt:55:5
 loop-less : tie.Need-loop-less Inv-loop μ-loop
 loop-less c = search needs
 
--- src/parts.rt:55:5
 loop-again : tie.Need-loop-again Inv-loop μ-loop
 loop-again c = (search needs, omega arith, wrote-length _ _ _ _ _ (c .before .before .write-word .ensures) ∙ c .before .before .before .before .before .before .loop .inv .2, words-next _ _ _ _ _ _ _ _ (c .before .before .before .before .before .before .before .before .before .pre) (c .before .before .before .before .before .loop-test .taken) (c .before .before .before .before .before .before .loop .inv .1) (c .before .before .before .before .before .before .loop .inv .3) (c .before .before .write-word .ensures))
 
--- src/parts.rt:49:1
 same-length : tie.Need-same-length Inv-loop μ-loop
 same-length c = c .before .loop .inv .2
 
--- src/parts.rt:49:1
 returns : tie.Need-returns Inv-loop μ-loop
 returns c = words-all _ _ _ _ _ (search needs) (c .loop-test .left) (c .before .loop .inv .3)
 

@@ -8,67 +8,51 @@ use borrow.Author.Needs.{needs}
 use Rattle.form_writer.proofs.parts.write_joined.Statement.{statement}
 use Rattle.form_writer.proofs.parts.write_joined.Tie as tie
 
--- src/parts.rt:116:13
 mul-a : tie.Need-mul-a
 mul-a c = search needs
 
--- src/parts.rt:118:13
 mul-c : tie.Need-mul-c
 mul-c c = search needs
 
--- src/parts.rt:120:8
 fits-requires : tie.Need-fits-requires
 fits-requires c κs = search needs
 
--- src/parts.rt:121:9
 put-words-requires : tie.Need-put-words-requires
 put-words-requires c κs = let h : length (c .before .before .before .before .before .before .before .before .args .head .now) * 4 + length (c .before .before .before .before .before .before .before .before .args .first .now) + length (c .before .before .before .before .before .before .before .before .args .middle .now) * 4 + length (c .before .before .before .before .before .before .before .before .args .second .now) + 0 + 0 ≤ length (c .before .before .before .before .before .before .before .before .args .d .now) = leb-true _ _ (sym (c .before .before .fits2 .ensures) ∙ c .before .if1 .taken) in omega arith
 
--- src/parts.rt:122:9
 write-octets-requires : tie.Need-write-octets-requires
 write-octets-requires c κs = search needs
 
--- src/parts.rt:123:22
 add-put-words : tie.Need-add-put-words
 add-put-words c = search needs
 
--- src/parts.rt:123:9
 put-words-requires-2 : tie.Need-put-words-requires-2
 put-words-requires-2 c κs = let h : length (c .before .before .before .before .before .before .before .before .before .before .before .before .before .before .before .before .args .head .now) * 4 + length (c .before .before .before .before .before .before .before .before .before .before .before .before .before .before .before .before .args .first .now) + length (c .before .before .before .before .before .before .before .before .before .before .before .before .before .before .before .before .args .middle .now) * 4 + length (c .before .before .before .before .before .before .before .before .before .before .before .before .before .before .before .before .args .second .now) + 0 + 0 ≤ length (c .before .before .before .before .before .before .before .before .before .before .before .before .before .before .before .before .args .d .now) = leb-true _ _ (sym (c .before .before .before .before .before .before .before .before .before .before .fits2 .ensures) ∙ c .before .before .before .before .before .before .before .before .before .if1 .taken) in omega arith
 
--- src/parts.rt:124:30
 add-write-octets : tie.Need-add-write-octets
 add-write-octets c = search needs
 
--- src/parts.rt:124:30
 add-write-octets-2 : tie.Need-add-write-octets-2
 add-write-octets-2 c = let h : length (c .before .before .before .before .before .before .before .before .before .before .before .before .before .before .before .before .before .before .before .before .args .head .now) * 4 + length (c .before .before .before .before .before .before .before .before .before .before .before .before .before .before .before .before .before .before .before .before .args .first .now) + length (c .before .before .before .before .before .before .before .before .before .before .before .before .before .before .before .before .before .before .before .before .args .middle .now) * 4 + length (c .before .before .before .before .before .before .before .before .before .before .before .before .before .before .before .before .before .before .before .before .args .second .now) + 0 + 0 ≤ length (c .before .before .before .before .before .before .before .before .before .before .before .before .before .before .before .before .before .before .before .before .args .d .now) = leb-true _ _ (sym (c .before .before .before .before .before .before .before .before .before .before .before .before .before .before .fits2 .ensures) ∙ c .before .before .before .before .before .before .before .before .before .before .before .before .before .if1 .taken) in omega arith
 
--- src/parts.rt:124:9
 write-octets-requires-2 : tie.Need-write-octets-requires-2
 write-octets-requires-2 c κs = search needs
 
--- src/parts.rt:125:34
 add-t20 : tie.Need-add-t20
 add-t20 c = search needs
 
--- src/parts.rt:125:34
 add-t23 : tie.Need-add-t23
 add-t23 c = let h : length (c .before .before .before .before .before .before .before .before .before .before .before .before .before .before .before .before .before .before .before .before .before .before .before .args .head .now) * 4 + length (c .before .before .before .before .before .before .before .before .before .before .before .before .before .before .before .before .before .before .before .before .before .before .before .args .first .now) + length (c .before .before .before .before .before .before .before .before .before .before .before .before .before .before .before .before .before .before .before .before .before .before .before .args .middle .now) * 4 + length (c .before .before .before .before .before .before .before .before .before .before .before .before .before .before .before .before .before .before .before .before .before .before .before .args .second .now) + 0 + 0 ≤ length (c .before .before .before .before .before .before .before .before .before .before .before .before .before .before .before .before .before .before .before .before .before .before .before .args .d .now) = leb-true _ _ (sym (c .before .before .before .before .before .before .before .before .before .before .before .before .before .before .before .before .before .fits2 .ensures) ∙ c .before .before .before .before .before .before .before .before .before .before .before .before .before .before .before .before .if1 .taken) in omega arith
 
--- src/parts.rt:125:34
 add-t24 : tie.Need-add-t24
 add-t24 c = let h : length (c .before .before .before .before .before .before .before .before .before .before .before .before .before .before .before .before .before .before .before .before .before .before .before .args .head .now) * 4 + length (c .before .before .before .before .before .before .before .before .before .before .before .before .before .before .before .before .before .before .before .before .before .before .before .args .first .now) + length (c .before .before .before .before .before .before .before .before .before .before .before .before .before .before .before .before .before .before .before .before .before .before .before .args .middle .now) * 4 + length (c .before .before .before .before .before .before .before .before .before .before .before .before .before .before .before .before .before .before .before .before .before .before .before .args .second .now) + 0 + 0 ≤ length (c .before .before .before .before .before .before .before .before .before .before .before .before .before .before .before .before .before .before .before .before .before .before .before .args .d .now) = leb-true _ _ (sym (c .before .before .before .before .before .before .before .before .before .before .before .before .before .before .before .before .before .fits2 .ensures) ∙ c .before .before .before .before .before .before .before .before .before .before .before .before .before .before .before .before .if1 .taken) in omega arith
 
--- src/parts.rt:125:9
 same-length : tie.Need-same-length
 same-length c = search needs
 
--- src/parts.rt:125:9
 returns : tie.Need-returns
 returns c = let h : length (c .before .before .before .before .before .before .before .before .before .before .before .before .before .before .before .before .before .before .before .before .before .before .before .args .head .now) * 4 + length (c .before .before .before .before .before .before .before .before .before .before .before .before .before .before .before .before .before .before .before .before .before .before .before .args .first .now) + length (c .before .before .before .before .before .before .before .before .before .before .before .before .before .before .before .before .before .before .before .before .before .before .before .args .middle .now) * 4 + length (c .before .before .before .before .before .before .before .before .before .before .before .before .before .before .before .before .before .before .before .before .before .before .before .args .second .now) + 0 + 0 ≤ length (c .before .before .before .before .before .before .before .before .before .before .before .before .before .before .before .before .before .before .before .before .before .before .before .args .d .now) = leb-true _ _ (sym (c .before .before .before .before .before .before .before .before .before .before .before .before .before .before .before .before .before .fits2 .ensures) ∙ c .before .before .before .before .before .before .before .before .before .before .before .before .before .before .before .before .if1 .taken) in let h′ : length (c .before .before .before .before .before .before .before .before .before .before .before .before .before .before .before .before .before .before .before .before .before .before .before .args .head .now) * 4 + length (c .before .before .before .before .before .before .before .before .before .before .before .before .before .before .before .before .before .before .before .before .before .before .before .args .first .now) + length (c .before .before .before .before .before .before .before .before .before .before .before .before .before .before .before .before .before .before .before .before .before .before .before .args .middle .now) * 4 + length (c .before .before .before .before .before .before .before .before .before .before .before .before .before .before .before .before .before .before .before .before .before .before .before .args .second .now) ≤ length (c .before .before .before .before .before .before .before .before .before .before .before .before .before .before .before .before .before .before .before .before .before .before .before .args .d .now) = omega arith in alone-fits _ _ _ _ (joined-length (c .before .before .before .before .before .before .before .before .before .before .before .before .before .before .before .before .before .before .before .before .before .before .before .args .head .now) (c .before .before .before .before .before .before .before .before .before .before .before .before .before .before .before .before .before .before .before .before .before .before .before .args .first .now) (c .before .before .before .before .before .before .before .before .before .before .before .before .before .before .before .before .before .before .before .before .before .before .before .args .middle .now) (c .before .before .before .before .before .before .before .before .before .before .before .before .before .before .before .before .before .before .before .before .before .before .before .args .second .now)) h′ (joined-put _ (c .before .before .before .before .before .before .before .before .before .before .before .before .before .before .before .before .before .before .before .before .before .before .before .args .head .now) (c .before .before .before .before .before .before .before .before .before .before .before .before .before .before .before .before .before .before .before .before .before .before .before .args .first .now) (c .before .before .before .before .before .before .before .before .before .before .before .before .before .before .before .before .before .before .before .before .before .before .before .args .middle .now) (c .before .before .before .before .before .before .before .before .before .before .before .before .before .before .before .before .before .before .before .before .before .before .before .args .second .now) _ _ _ _ _ _ h′ (c .before .before .before .before .before .before .before .before .before .before .before .before .before .before .put-words .ensures) (c .before .before .before .before .before .before .before .before .before .before .write-octets .ensures) (c .before .before .before .before .before .before .put-words2 .ensures) (c .before .before .write-octets2 .ensures))
 
--- src/parts.rt:110:1
 returns-2 : tie.Need-returns-2
 returns-2 c = let h : length (c .before .before .before .before .before .before .before .args .d .now) < length (c .before .before .before .before .before .before .before .args .head .now) * 4 + length (c .before .before .before .before .before .before .before .args .first .now) + length (c .before .before .before .before .before .before .before .args .middle .now) * 4 + length (c .before .before .before .before .before .before .before .args .second .now) + 0 + 0 = leb-false _ _ (sym (c .before .fits2 .ensures) ∙ c .if1 .left) in let h′ : length (c .before .before .before .before .before .before .before .args .d .now) < length (c .before .before .before .before .before .before .before .args .head .now) * 4 + length (c .before .before .before .before .before .before .before .args .first .now) + length (c .before .before .before .before .before .before .before .args .middle .now) * 4 + length (c .before .before .before .before .before .before .before .args .second .now) = omega arith in alone-full _ _ _ (joined-length (c .before .before .before .before .before .before .before .args .head .now) (c .before .before .before .before .before .before .before .args .first .now) (c .before .before .before .before .before .before .before .args .middle .now) (c .before .before .before .before .before .before .before .args .second .now)) h′
 

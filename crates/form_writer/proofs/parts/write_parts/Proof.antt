@@ -9,107 +9,81 @@ use borrow.Author.Needs.{needs}
 use Rattle.form_writer.proofs.parts.write_parts.Statement.{statement}
 use Rattle.form_writer.proofs.parts.write_parts.Tie as tie
 
--- src/parts.rt:93:13
 mul-a : tie.Need-mul-a
 mul-a c = search needs
 
--- src/parts.rt:94:14
 add-b : tie.Need-add-b
 add-b c = search needs
 
--- src/parts.rt:94:13
 mul-b : tie.Need-mul-b
 mul-b c = search needs
 
--- src/parts.rt:95:13
 mul-c : tie.Need-mul-c
 mul-c c = search needs
 
--- src/parts.rt:96:13
 mul-e : tie.Need-mul-e
 mul-e c = search needs
 
--- src/parts.rt:97:14
 add-f : tie.Need-add-f
 add-f c = search needs
 
--- src/parts.rt:97:13
 mul-f : tie.Need-mul-f
 mul-f c = search needs
 
--- src/parts.rt:98:13
 mul-g : tie.Need-mul-g
 mul-g c = search needs
 
--- src/parts.rt:99:8
 fits-requires : tie.Need-fits-requires
 fits-requires c κs = search needs
 
--- src/parts.rt:100:9
 put-words-requires : tie.Need-put-words-requires
 put-words-requires c κs = let h : length (c .before .before .before .before .before .before .before .before .before .before .args .head .now) * 4 + padded (length (c .before .before .before .before .before .before .before .before .before .before .args .first .now)) + length (c .before .before .before .before .before .before .before .before .before .before .args .middle .now) * 4 + length (c .before .before .before .before .before .before .before .before .before .before .args .list .now) * 4 + padded (length (c .before .before .before .before .before .before .before .before .before .before .args .second .now)) + length (c .before .before .before .before .before .before .before .before .before .before .args .tail .now) * 4 ≤ length (c .before .before .before .before .before .before .before .before .before .before .args .d .now) = leb-true _ _ (sym (c .before .before .fits2 .ensures) ∙ c .before .if1 .taken) in omega arith
 
--- src/parts.rt:101:9
 put-string-requires : tie.Need-put-string-requires
 put-string-requires c κs = let h : length (c .before .before .before .before .before .before .before .before .before .before .before .before .before .before .args .head .now) * 4 + padded (length (c .before .before .before .before .before .before .before .before .before .before .before .before .before .before .args .first .now)) + length (c .before .before .before .before .before .before .before .before .before .before .before .before .before .before .args .middle .now) * 4 + length (c .before .before .before .before .before .before .before .before .before .before .before .before .before .before .args .list .now) * 4 + padded (length (c .before .before .before .before .before .before .before .before .before .before .before .before .before .before .args .second .now)) + length (c .before .before .before .before .before .before .before .before .before .before .before .before .before .before .args .tail .now) * 4 ≤ length (c .before .before .before .before .before .before .before .before .before .before .before .before .before .before .args .d .now) = leb-true _ _ (sym (c .before .before .before .before .before .before .fits2 .ensures) ∙ c .before .before .before .before .before .if1 .taken) in omega arith
 
--- src/parts.rt:102:22
 add-put-words : tie.Need-add-put-words
 add-put-words c = search needs
 
--- src/parts.rt:102:22
 add-put-words-2 : tie.Need-add-put-words-2
 add-put-words-2 c = let h : length (c .before .before .before .before .before .before .before .before .before .before .before .before .before .before .before .before .before .before .args .head .now) * 4 + padded (length (c .before .before .before .before .before .before .before .before .before .before .before .before .before .before .before .before .before .before .args .first .now)) + length (c .before .before .before .before .before .before .before .before .before .before .before .before .before .before .before .before .before .before .args .middle .now) * 4 + length (c .before .before .before .before .before .before .before .before .before .before .before .before .before .before .before .before .before .before .args .list .now) * 4 + padded (length (c .before .before .before .before .before .before .before .before .before .before .before .before .before .before .before .before .before .before .args .second .now)) + length (c .before .before .before .before .before .before .before .before .before .before .before .before .before .before .before .before .before .before .args .tail .now) * 4 ≤ length (c .before .before .before .before .before .before .before .before .before .before .before .before .before .before .before .before .before .before .args .d .now) = leb-true _ _ (sym (c .before .before .before .before .before .before .before .before .before .before .fits2 .ensures) ∙ c .before .before .before .before .before .before .before .before .before .if1 .taken) in omega arith
 
--- src/parts.rt:102:9
 put-words-requires-2 : tie.Need-put-words-requires-2
 put-words-requires-2 c κs = let h : length (c .before .before .before .before .before .before .before .before .before .before .before .before .before .before .before .before .before .before .args .head .now) * 4 + padded (length (c .before .before .before .before .before .before .before .before .before .before .before .before .before .before .before .before .before .before .args .first .now)) + length (c .before .before .before .before .before .before .before .before .before .before .before .before .before .before .before .before .before .before .args .middle .now) * 4 + length (c .before .before .before .before .before .before .before .before .before .before .before .before .before .before .before .before .before .before .args .list .now) * 4 + padded (length (c .before .before .before .before .before .before .before .before .before .before .before .before .before .before .before .before .before .before .args .second .now)) + length (c .before .before .before .before .before .before .before .before .before .before .before .before .before .before .before .before .before .before .args .tail .now) * 4 ≤ length (c .before .before .before .before .before .before .before .before .before .before .before .before .before .before .before .before .before .before .args .d .now) = leb-true _ _ (sym (c .before .before .before .before .before .before .before .before .before .before .fits2 .ensures) ∙ c .before .before .before .before .before .before .before .before .before .if1 .taken) in omega arith
 
--- src/parts.rt:103:23
 add-put-string : tie.Need-add-put-string
 add-put-string c = search needs
 
--- src/parts.rt:103:23
 add-put-string-2 : tie.Need-add-put-string-2
 add-put-string-2 c = let h : length (c .before .before .before .before .before .before .before .before .before .before .before .before .before .before .before .before .before .before .before .before .before .before .args .head .now) * 4 + padded (length (c .before .before .before .before .before .before .before .before .before .before .before .before .before .before .before .before .before .before .before .before .before .before .args .first .now)) + length (c .before .before .before .before .before .before .before .before .before .before .before .before .before .before .before .before .before .before .before .before .before .before .args .middle .now) * 4 + length (c .before .before .before .before .before .before .before .before .before .before .before .before .before .before .before .before .before .before .before .before .before .before .args .list .now) * 4 + padded (length (c .before .before .before .before .before .before .before .before .before .before .before .before .before .before .before .before .before .before .before .before .before .before .args .second .now)) + length (c .before .before .before .before .before .before .before .before .before .before .before .before .before .before .before .before .before .before .before .before .before .before .args .tail .now) * 4 ≤ length (c .before .before .before .before .before .before .before .before .before .before .before .before .before .before .before .before .before .before .before .before .before .before .args .d .now) = leb-true _ _ (sym (c .before .before .before .before .before .before .before .before .before .before .before .before .before .before .fits2 .ensures) ∙ c .before .before .before .before .before .before .before .before .before .before .before .before .before .if1 .taken) in omega arith
 
--- src/parts.rt:103:23
 add-put-string-3 : tie.Need-add-put-string-3
 add-put-string-3 c = let h : length (c .before .before .before .before .before .before .before .before .before .before .before .before .before .before .before .before .before .before .before .before .before .before .args .head .now) * 4 + padded (length (c .before .before .before .before .before .before .before .before .before .before .before .before .before .before .before .before .before .before .before .before .before .before .args .first .now)) + length (c .before .before .before .before .before .before .before .before .before .before .before .before .before .before .before .before .before .before .before .before .before .before .args .middle .now) * 4 + length (c .before .before .before .before .before .before .before .before .before .before .before .before .before .before .before .before .before .before .before .before .before .before .args .list .now) * 4 + padded (length (c .before .before .before .before .before .before .before .before .before .before .before .before .before .before .before .before .before .before .before .before .before .before .args .second .now)) + length (c .before .before .before .before .before .before .before .before .before .before .before .before .before .before .before .before .before .before .before .before .before .before .args .tail .now) * 4 ≤ length (c .before .before .before .before .before .before .before .before .before .before .before .before .before .before .before .before .before .before .before .before .before .before .args .d .now) = leb-true _ _ (sym (c .before .before .before .before .before .before .before .before .before .before .before .before .before .before .fits2 .ensures) ∙ c .before .before .before .before .before .before .before .before .before .before .before .before .before .if1 .taken) in omega arith
 
--- src/parts.rt:103:9
 put-string-requires-2 : tie.Need-put-string-requires-2
 put-string-requires-2 c κs = let h : length (c .before .before .before .before .before .before .before .before .before .before .before .before .before .before .before .before .before .before .before .before .before .before .args .head .now) * 4 + padded (length (c .before .before .before .before .before .before .before .before .before .before .before .before .before .before .before .before .before .before .before .before .before .before .args .first .now)) + length (c .before .before .before .before .before .before .before .before .before .before .before .before .before .before .before .before .before .before .before .before .before .before .args .middle .now) * 4 + length (c .before .before .before .before .before .before .before .before .before .before .before .before .before .before .before .before .before .before .before .before .before .before .args .list .now) * 4 + padded (length (c .before .before .before .before .before .before .before .before .before .before .before .before .before .before .before .before .before .before .before .before .before .before .args .second .now)) + length (c .before .before .before .before .before .before .before .before .before .before .before .before .before .before .before .before .before .before .before .before .before .before .args .tail .now) * 4 ≤ length (c .before .before .before .before .before .before .before .before .before .before .before .before .before .before .before .before .before .before .before .before .before .before .args .d .now) = leb-true _ _ (sym (c .before .before .before .before .before .before .before .before .before .before .before .before .before .before .fits2 .ensures) ∙ c .before .before .before .before .before .before .before .before .before .before .before .before .before .if1 .taken) in omega arith
 
--- src/parts.rt:104:34
 add-t26 : tie.Need-add-t26
 add-t26 c = search needs
 
--- src/parts.rt:104:34
 add-t29 : tie.Need-add-t29
 add-t29 c = let h : length (c .before .before .before .before .before .before .before .before .before .before .before .before .before .before .before .before .before .before .before .before .before .before .before .before .before .args .head .now) * 4 + padded (length (c .before .before .before .before .before .before .before .before .before .before .before .before .before .before .before .before .before .before .before .before .before .before .before .before .before .args .first .now)) + length (c .before .before .before .before .before .before .before .before .before .before .before .before .before .before .before .before .before .before .before .before .before .before .before .before .before .args .middle .now) * 4 + length (c .before .before .before .before .before .before .before .before .before .before .before .before .before .before .before .before .before .before .before .before .before .before .before .before .before .args .list .now) * 4 + padded (length (c .before .before .before .before .before .before .before .before .before .before .before .before .before .before .before .before .before .before .before .before .before .before .before .before .before .args .second .now)) + length (c .before .before .before .before .before .before .before .before .before .before .before .before .before .before .before .before .before .before .before .before .before .before .before .before .before .args .tail .now) * 4 ≤ length (c .before .before .before .before .before .before .before .before .before .before .before .before .before .before .before .before .before .before .before .before .before .before .before .before .before .args .d .now) = leb-true _ _ (sym (c .before .before .before .before .before .before .before .before .before .before .before .before .before .before .before .before .before .fits2 .ensures) ∙ c .before .before .before .before .before .before .before .before .before .before .before .before .before .before .before .before .if1 .taken) in omega arith
 
--- src/parts.rt:104:34
 add-t25 : tie.Need-add-t25
 add-t25 c = let h : length (c .before .before .before .before .before .before .before .before .before .before .before .before .before .before .before .before .before .before .before .before .before .before .before .before .before .args .head .now) * 4 + padded (length (c .before .before .before .before .before .before .before .before .before .before .before .before .before .before .before .before .before .before .before .before .before .before .before .before .before .args .first .now)) + length (c .before .before .before .before .before .before .before .before .before .before .before .before .before .before .before .before .before .before .before .before .before .before .before .before .before .args .middle .now) * 4 + length (c .before .before .before .before .before .before .before .before .before .before .before .before .before .before .before .before .before .before .before .before .before .before .before .before .before .args .list .now) * 4 + padded (length (c .before .before .before .before .before .before .before .before .before .before .before .before .before .before .before .before .before .before .before .before .before .before .before .before .before .args .second .now)) + length (c .before .before .before .before .before .before .before .before .before .before .before .before .before .before .before .before .before .before .before .before .before .before .before .before .before .args .tail .now) * 4 ≤ length (c .before .before .before .before .before .before .before .before .before .before .before .before .before .before .before .before .before .before .before .before .before .before .before .before .before .args .d .now) = leb-true _ _ (sym (c .before .before .before .before .before .before .before .before .before .before .before .before .before .before .before .before .before .fits2 .ensures) ∙ c .before .before .before .before .before .before .before .before .before .before .before .before .before .before .before .before .if1 .taken) in omega arith
 
--- src/parts.rt:104:34
 add-t30 : tie.Need-add-t30
 add-t30 c = let h : length (c .before .before .before .before .before .before .before .before .before .before .before .before .before .before .before .before .before .before .before .before .before .before .before .before .before .args .head .now) * 4 + padded (length (c .before .before .before .before .before .before .before .before .before .before .before .before .before .before .before .before .before .before .before .before .before .before .before .before .before .args .first .now)) + length (c .before .before .before .before .before .before .before .before .before .before .before .before .before .before .before .before .before .before .before .before .before .before .before .before .before .args .middle .now) * 4 + length (c .before .before .before .before .before .before .before .before .before .before .before .before .before .before .before .before .before .before .before .before .before .before .before .before .before .args .list .now) * 4 + padded (length (c .before .before .before .before .before .before .before .before .before .before .before .before .before .before .before .before .before .before .before .before .before .before .before .before .before .args .second .now)) + length (c .before .before .before .before .before .before .before .before .before .before .before .before .before .before .before .before .before .before .before .before .before .before .before .before .before .args .tail .now) * 4 ≤ length (c .before .before .before .before .before .before .before .before .before .before .before .before .before .before .before .before .before .before .before .before .before .before .before .before .before .args .d .now) = leb-true _ _ (sym (c .before .before .before .before .before .before .before .before .before .before .before .before .before .before .before .before .before .fits2 .ensures) ∙ c .before .before .before .before .before .before .before .before .before .before .before .before .before .before .before .before .if1 .taken) in omega arith
 
--- src/parts.rt:104:34
 add-t31 : tie.Need-add-t31
 add-t31 c = let h : length (c .before .before .before .before .before .before .before .before .before .before .before .before .before .before .before .before .before .before .before .before .before .before .before .before .before .args .head .now) * 4 + padded (length (c .before .before .before .before .before .before .before .before .before .before .before .before .before .before .before .before .before .before .before .before .before .before .before .before .before .args .first .now)) + length (c .before .before .before .before .before .before .before .before .before .before .before .before .before .before .before .before .before .before .before .before .before .before .before .before .before .args .middle .now) * 4 + length (c .before .before .before .before .before .before .before .before .before .before .before .before .before .before .before .before .before .before .before .before .before .before .before .before .before .args .list .now) * 4 + padded (length (c .before .before .before .before .before .before .before .before .before .before .before .before .before .before .before .before .before .before .before .before .before .before .before .before .before .args .second .now)) + length (c .before .before .before .before .before .before .before .before .before .before .before .before .before .before .before .before .before .before .before .before .before .before .before .before .before .args .tail .now) * 4 ≤ length (c .before .before .before .before .before .before .before .before .before .before .before .before .before .before .before .before .before .before .before .before .before .before .before .before .before .args .d .now) = leb-true _ _ (sym (c .before .before .before .before .before .before .before .before .before .before .before .before .before .before .before .before .before .fits2 .ensures) ∙ c .before .before .before .before .before .before .before .before .before .before .before .before .before .before .before .before .if1 .taken) in omega arith
 
--- src/parts.rt:104:9
 same-length : tie.Need-same-length
 same-length c = search needs
 
--- src/parts.rt:104:9
 returns : tie.Need-returns
 returns c = alone-fits _ _ _ _ (parts-length (c .before .before .before .before .before .before .before .before .before .before .before .before .before .before .before .before .before .before .before .before .before .before .before .before .before .args .head .now) (c .before .before .before .before .before .before .before .before .before .before .before .before .before .before .before .before .before .before .before .before .before .before .before .before .before .args .first .now) (c .before .before .before .before .before .before .before .before .before .before .before .before .before .before .before .before .before .before .before .before .before .before .before .before .before .args .middle .now) (c .before .before .before .before .before .before .before .before .before .before .before .before .before .before .before .before .before .before .before .before .before .before .before .before .before .args .list .now) (c .before .before .before .before .before .before .before .before .before .before .before .before .before .before .before .before .before .before .before .before .before .before .before .before .before .args .second .now) (c .before .before .before .before .before .before .before .before .before .before .before .before .before .before .before .before .before .before .before .before .before .before .before .before .before .args .tail .now)) (leb-true _ _ (sym (c .before .before .before .before .before .before .before .before .before .before .before .before .before .before .before .before .before .fits2 .ensures) ∙ c .before .before .before .before .before .before .before .before .before .before .before .before .before .before .before .before .if1 .taken)) (parts-put _ (c .before .before .before .before .before .before .before .before .before .before .before .before .before .before .before .before .before .before .before .before .before .before .before .before .before .args .head .now) (c .before .before .before .before .before .before .before .before .before .before .before .before .before .before .before .before .before .before .before .before .before .before .before .before .before .args .first .now) (c .before .before .before .before .before .before .before .before .before .before .before .before .before .before .before .before .before .before .before .before .before .before .before .before .before .args .middle .now) (c .before .before .before .before .before .before .before .before .before .before .before .before .before .before .before .before .before .before .before .before .before .before .before .before .before .args .list .now) (c .before .before .before .before .before .before .before .before .before .before .before .before .before .before .before .before .before .before .before .before .before .before .before .before .before .args .second .now) (c .before .before .before .before .before .before .before .before .before .before .before .before .before .before .before .before .before .before .before .before .before .before .before .before .before .args .tail .now) _ _ _ _ (leb-true _ _ (sym (c .before .before .before .before .before .before .before .before .before .before .before .before .before .before .before .before .before .fits2 .ensures) ∙ c .before .before .before .before .before .before .before .before .before .before .before .before .before .before .before .before .if1 .taken)) (c .before .before .before .before .before .before .before .before .before .before .before .before .before .before .put-words .ensures) (c .before .before .before .before .before .before .before .before .before .before .put-string .ensures) (c .before .before .before .before .before .before .put-words2 .ensures) (c .before .before .put-string2 .ensures))
 
--- src/parts.rt:87:1
 returns-2 : tie.Need-returns-2
 returns-2 c = alone-full _ _ _ (parts-length (c .before .before .before .before .before .before .before .before .before .args .head .now) (c .before .before .before .before .before .before .before .before .before .args .first .now) (c .before .before .before .before .before .before .before .before .before .args .middle .now) (c .before .before .before .before .before .before .before .before .before .args .list .now) (c .before .before .before .before .before .before .before .before .before .args .second .now) (c .before .before .before .before .before .before .before .before .before .args .tail .now)) (leb-false _ _ (sym (c .before .fits2 .ensures) ∙ c .if1 .left))
 

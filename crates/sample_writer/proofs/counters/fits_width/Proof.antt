@@ -1,7 +1,7 @@
 use native.Mathlib.Omega.{arith}
-use Rattle.form_writer.proofs.FitTests.{hyper-fits, word-width, word-fits}
-use Rattle.form_writer.proofs.counters.fits_width.Statement.{statement}
-use Rattle.form_writer.proofs.counters.fits_width.Tie as tie
+use Rattle.sample_writer.proofs.FitTests.{hyper-fits, word-width, word-fits}
+use Rattle.sample_writer.proofs.counters.fits_width.Statement.{statement}
+use Rattle.sample_writer.proofs.counters.fits_width.Tie as tie
 
 returns : tie.Need-returns
 returns c = hyper-fits _ _ (c .if1 .taken) (omega arith)

@@ -1,6 +1,6 @@
 // Counter samples.
-use crate::parts;
-use crate::parts::WriteAnswer;
+use form_writer::parts;
+use form_writer::parts::WriteAnswer;
 use xdr::Written;
 ghost use mathlib.Core.Path.{_≡_};
 ghost use mathlib.Core.List.{_++_};
@@ -13,8 +13,8 @@ ghost use Rattle.xdr.specs.Writes.{stored, writeAt, wrote};
 ghost use Rattle.sflow.specs.Grammar.{Fits, Each, octetsOfEach, encode};
 ghost use Rattle.sflow.specs.Datagram.{sample-type};
 ghost use Rattle.counter_data.specs.CounterBodies.{wordsAndHypers};
 ghost use Rattle.form_writer.specs.Parts.{outcome, writeValue, wordsOctets};
-ghost use Rattle.form_writer.specs.CounterValues.{WordOrHyper, fitEach, countersAllowed, countersValue};
+ghost use Rattle.sample_writer.specs.CounterValues.{WordOrHyper, fitEach, countersAllowed, countersValue};
 
 // Whether a number fits a width, a word's or a hyper's.
 fn fits_width(width: u8, v: u64) -> bool

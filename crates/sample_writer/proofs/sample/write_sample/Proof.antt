@@ -1,55 +1,43 @@
-use Rattle.form_writer.proofs.OneSample.{sample-refused, sample-not-one, sample-one, front-done, front-full}
+use Rattle.sample_writer.proofs.OneSample.{sample-refused, sample-not-one, sample-one, front-done, front-full}
 use Rattle.form_writer.proofs.Allowances.{refused-value, written-value}
 use mathlib.Core.Path.{sym, _∙_}
 use borrow.Author.Needs.{needs}
-use Rattle.form_writer.proofs.sample.write_sample.Statement.{statement}
-use Rattle.form_writer.proofs.sample.write_sample.Tie as tie
+use Rattle.sample_writer.proofs.sample.write_sample.Statement.{statement}
+use Rattle.sample_writer.proofs.sample.write_sample.Tie as tie
 
--- src/sample.rt:42:37
 pass-sample-requires : tie.Need-pass-sample-requires
 pass-sample-requires c κs = search needs
 
--- src/sample.rt:42:30
 enum-known-end : tie.Need-enum-known-end
 enum-known-end c = search needs
 
--- src/sample.rt:43:9
 enum-told : tie.Need-enum-told
 enum-told c = search needs
 
--- src/sample.rt:43:9
 returns : tie.Need-returns
 returns c = refused-value _ _ _ (sample-refused _ _ _ (sym (c .before .before .pass-sample .ensures) ∙ c .enum-told .given .1))
 
--- src/sample.rt:46:9
 returns-2 : tie.Need-returns-2
 returns-2 c = refused-value _ _ _ (sample-not-one _ _ (sym (c .before .before .before .before .pass-sample .ensures) ∙ c .before .before .end .given .1) (c .if1 .taken))
 
--- src/sample.rt:48:11
 write-octets-requires : tie.Need-write-octets-requires
 write-octets-requires c κs = search needs
 
--- src/sample.rt:49:28
 enum-known-n : tie.Need-enum-known-n
 enum-known-n c = search needs
 
--- src/sample.rt:50:26
 enum-told-2 : tie.Need-enum-told-2
 enum-told-2 c = search needs
 
--- src/sample.rt:39:1
 same-length : tie.Need-same-length
 same-length c = search needs
 
--- src/sample.rt:39:1
 returns-3 : tie.Need-returns-3
 returns-3 c = front-done _ _ _ _ _ (c .before .before .before .before .before .write-octets .ensures) (c .before .n .given .1) ∙ written-value _ _ _ (sample-one _ _ (sym (c .before .before .before .before .before .before .before .before .before .before .before .pass-sample .ensures) ∙ c .before .before .before .before .before .before .before .before .before .end .given .1) (c .before .before .before .before .before .before .before .if1 .left))
 
--- src/sample.rt:39:1
 same-length-2 : tie.Need-same-length-2
 same-length-2 c = search needs
 
--- src/sample.rt:39:1
 returns-4 : tie.Need-returns-4
 returns-4 c = front-full _ _ _ _ (c .before .before .before .before .write-octets .ensures) (c .enum-told2 .given .1) ∙ written-value _ _ _ (sample-one _ _ (sym (c .before .before .before .before .before .before .before .before .before .before .pass-sample .ensures) ∙ c .before .before .before .before .before .before .before .before .end .given .1) (c .before .before .before .before .before .before .if1 .left))
 

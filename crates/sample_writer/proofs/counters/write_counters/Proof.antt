@@ -1,10 +1,10 @@
 use mathlib.Core.Logic.{⊎-elim}
 use mathlib.Core.Path.{refl}
 use Rattle.counter_data.proofs.Bodies.{not-listed}
-use Rattle.form_writer.proofs.CounterForms.{counters-arm, counters-none}
+use Rattle.sample_writer.proofs.CounterForms.{counters-arm, counters-none}
 use borrow.Author.Needs.{needs}
-use Rattle.form_writer.proofs.counters.write_counters.Statement.{statement}
-use Rattle.form_writer.proofs.counters.write_counters.Tie as tie
+use Rattle.sample_writer.proofs.counters.write_counters.Statement.{statement}
+use Rattle.sample_writer.proofs.counters.write_counters.Tie as tie
 
 slice-aggregate-write-numbers : tie.Need-slice-aggregate-write-numbers
 slice-aggregate-write-numbers c = search needs

@@ -1,67 +1,52 @@
 use Rattle.form_writer.proofs.Allowances.{refused-value, written-value}
-use Rattle.form_writer.proofs.Flows.{packet-refused, packet-not-one, extended-refused, extended-not-all, flow-allowed}
+use Rattle.sample_writer.proofs.Flows.{packet-refused, packet-not-one, extended-refused, extended-not-all, flow-allowed}
 use mathlib.Core.Path.{sym, _∙_}
 use borrow.Author.Needs.{needs}
-use Rattle.form_writer.proofs.sample.write_flow.Statement.{statement}
-use Rattle.form_writer.proofs.sample.write_flow.Tie as tie
+use Rattle.sample_writer.proofs.sample.write_flow.Statement.{statement}
+use Rattle.sample_writer.proofs.sample.write_flow.Tie as tie
 
--- src/sample.rt:17:37
 pass-packet-requires : tie.Need-pass-packet-requires
 pass-packet-requires c κs = search needs
 
--- src/sample.rt:17:30
 enum-known-end : tie.Need-enum-known-end
 enum-known-end c = search needs
 
--- src/sample.rt:18:9
 enum-told : tie.Need-enum-told
 enum-told c = search needs
 
--- src/sample.rt:18:9
 returns : tie.Need-returns
 returns c = refused-value _ _ _ (packet-refused _ _ _ _ _ (sym (c .before .before .pass-packet .ensures) ∙ c .enum-told .given .1))
 
--- src/sample.rt:21:9
 returns-2 : tie.Need-returns-2
 returns-2 c = refused-value _ _ _ (packet-not-one _ _ _ _ (sym (c .before .before .before .before .pass-packet .ensures) ∙ c .before .before .end .given .1) (c .if1 .taken))
 
--- src/sample.rt:23:30
 pass-extended-requires : tie.Need-pass-extended-requires
 pass-extended-requires c κs = search needs
 
--- src/sample.rt:23:22
 enum-known-last : tie.Need-enum-known-last
 enum-known-last c = search needs
 
--- src/sample.rt:24:9
 enum-told-2 : tie.Need-enum-told-2
 enum-told-2 c = search needs
 
--- src/sample.rt:24:9
 returns-3 : tie.Need-returns-3
 returns-3 c = refused-value _ _ _ (extended-refused _ _ _ _ (sym (c .before .before .before .before .before .before .before .pass-packet .ensures) ∙ c .before .before .before .before .before .end .given .1) (c .before .before .before .if1 .left) _ _ (sym (c .before .before .pass-extended .ensures) ∙ c .enum-told2 .given .1))
 
--- src/sample.rt:27:9
 returns-4 : tie.Need-returns-4
 returns-4 c = refused-value _ _ _ (extended-not-all _ _ _ _ (sym (c .before .before .before .before .before .before .before .before .before .pass-packet .ensures) ∙ c .before .before .before .before .before .before .before .end .given .1) (c .before .before .before .before .before .if1 .left) _ (sym (c .before .before .before .before .pass-extended .ensures) ∙ c .before .before .last .given .1) (c .if2 .taken))
 
--- src/sample.rt:32:35
 slice-aggregate-write-joined : tie.Need-slice-aggregate-write-joined
 slice-aggregate-write-joined c = search needs
 
--- src/sample.rt:32:50
 slice-aggregate-write-joined-2 : tie.Need-slice-aggregate-write-joined-2
 slice-aggregate-write-joined-2 c = search needs
 
--- src/sample.rt:32:5
 write-joined-requires : tie.Need-write-joined-requires
 write-joined-requires c κs = search needs
 
--- src/sample.rt:11:1
 same-length : tie.Need-same-length
 same-length c = search needs
 
--- src/sample.rt:11:1
 returns-5 : tie.Need-returns-5
 returns-5 c = c .before .before .write-joined .ensures ∙ written-value _ _ _ (flow-allowed _ _ _ _ (sym (c .before .before .before .before .before .before .before .before .before .before .before .before .before .before .before .pass-packet .ensures) ∙ c .before .before .before .before .before .before .before .before .before .before .before .before .before .end .given .1) (c .before .before .before .before .before .before .before .before .before .before .before .if1 .left) _ (sym (c .before .before .before .before .before .before .before .before .before .before .pass-extended .ensures) ∙ c .before .before .before .before .before .before .before .before .last .given .1) (c .before .before .before .before .before .before .if2 .left))
 

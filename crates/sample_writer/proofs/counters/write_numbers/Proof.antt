@@ -1,10 +1,10 @@
 use mathlib.Core.Path.{sym, _∙_}
 use native.Mathlib.Omega.{arith}
-use Rattle.form_writer.proofs.NumberRuns.{head-put, numbers-bad, numbers-full, numbers-done}
-use Rattle.form_writer.proofs.FitTests.{widths-are, fits-told}
+use Rattle.sample_writer.proofs.NumberRuns.{head-put, numbers-bad, numbers-full, numbers-done}
+use Rattle.sample_writer.proofs.FitTests.{widths-are, fits-told}
 use borrow.Author.Needs.{needs}
-use Rattle.form_writer.proofs.counters.write_numbers.Statement.{statement}
-use Rattle.form_writer.proofs.counters.write_numbers.Tie as tie
+use Rattle.sample_writer.proofs.counters.write_numbers.Statement.{statement}
+use Rattle.sample_writer.proofs.counters.write_numbers.Tie as tie
 
 each-fits-requires : tie.Need-each-fits-requires
 each-fits-requires c κs = widths-are (c .before .before .before .before .args .widths .now) (c .before .before .before .before .pre .0)

@@ -14,11 +14,11 @@ use Rattle.sflow.specs.Decode.{decode}
 use Rattle.sflow.specs.Datagram.{sample-type}
 use Rattle.fields.specs.declared.strings.Passed.the-variants.{Next, Refused}
 use Rattle.fields.specs.Parts.{asPassed}
 use Rattle.form_writer.specs.declared.parts.WriteAnswer.the-variants.{Done, NoRoom}
 use Rattle.form_writer.specs.Parts.{outcome, writeAlone}
-use Rattle.form_writer.specs.FlowValues.{isOne}
+use Rattle.sample_writer.specs.FlowValues.{isOne}
 use Rattle.form_writer.proofs.Allowed.{ends-there, ends-elsewhere, ends-nowhere}
 use Rattle.form_writer.proofs.Stores.{alone-fits, alone-full}
 
 module _ (xs : List ℕ) where
   pub sample-refused : (why : Refusal) (p : ℕ) → asPassed (decode sample-type xs 0) ≡ Refused why p → isOne sample-type xs ≡ false

@@ -10,11 +10,12 @@ use Rattle.xdr.proofs.Reading.{never}
 use Rattle.sflow.specs.Grammar.{listed, Valid, octetsOfEach, encode}
 use Rattle.sflow.specs.Datagram.{counters-versions, sample-type}
 use Rattle.counter_data.proofs.Bodies.{widthsOf, version-over}
 use Rattle.form_writer.specs.declared.parts.WriteAnswer.{WriteAnswer}
 use Rattle.form_writer.specs.declared.parts.WriteAnswer.the-variants.{BadValue}
 use Rattle.form_writer.specs.Parts.{outcome, writeValue, wordsOctets}
-use Rattle.form_writer.specs.CounterValues.{fitEach, countersAllowed, countersValue}
-use Rattle.form_writer.proofs.FitTests.{both-pass, fits-told, fits-tested}
+use Rattle.form_writer.proofs.Allowances.{both-held}
+use Rattle.sample_writer.specs.CounterValues.{fitEach, countersAllowed, countersValue}
+use Rattle.sample_writer.proofs.FitTests.{fits-told, fits-tested}
 
 -- ---- octets
 
@@ -53,7 +54,7 @@ version-small v h = go (leb v 7) refl
 pub allowed-valid : (a b c version : ℕ) (ns : List ℕ) → a < 2 ^ 32 → b < 2 ^ 32 → c < 2 ^ 32 → countersAllowed version ns ≡ true
     → Valid sample-type (countersValue a b c version ns)
 allowed-valid a b c version ns p q r e =
-    let h = both-pass (listed counters-versions version) (fitEach (widthsOf version) ns) e in
+    let h = both-held (listed counters-versions version) (fitEach (widthsOf version) ns) e in
     let t : T (listed counters-versions version) = rw (h .0) tt in
     (omega arith, tt, ((p, (q, (r, tt))), (version-small version (h .0), t, fits-told (widthsOf version) ns (h .1))))
 

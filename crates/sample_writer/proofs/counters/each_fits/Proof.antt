@@ -1,12 +1,12 @@
-use Rattle.form_writer.specs.CounterValues.{WordOrHyper, fitEach}
+use Rattle.sample_writer.specs.CounterValues.{WordOrHyper, fitEach}
 use Rattle.sflow.specs.Grammar.{Each}
 use Prim.Native.Nat.{_≤_, _-_}
 use lib.ListN.{length, drop}
 use mathlib.Core.Path.{_≡_, refl, sym, _∙_}
 use borrow.Author.Needs.{needs}
-use Rattle.form_writer.proofs.FitTests.{other-length, first-width, fit-more, fit-stop, fit-end}
-use Rattle.form_writer.proofs.counters.each_fits.Statement.{statement}
-use Rattle.form_writer.proofs.counters.each_fits.Tie as tie
+use Rattle.sample_writer.proofs.FitTests.{other-length, first-width, fit-more, fit-stop, fit-end}
+use Rattle.sample_writer.proofs.counters.each_fits.Statement.{statement}
+use Rattle.sample_writer.proofs.counters.each_fits.Tie as tie
 
 -- The test of the numbers from the index on is the test of all. The measure is how many are left.
 abbrev Inv-loop : tie.InvT-loop

@@ -1,10 +1,10 @@
 use Prim.Native.Nat.{_^_, _<_}
 use mathlib.Core.Path.{_∙_}
 use native.Mathlib.Omega.{arith}
-use Rattle.form_writer.proofs.FitTests.{word-width}
+use Rattle.sample_writer.proofs.FitTests.{word-width}
 use borrow.Author.Needs.{needs}
-use Rattle.form_writer.proofs.counters.write_number.Statement.{statement}
-use Rattle.form_writer.proofs.counters.write_number.Tie as tie
+use Rattle.sample_writer.proofs.counters.write_number.Statement.{statement}
+use Rattle.sample_writer.proofs.counters.write_number.Tie as tie
 
 write-hyper-requires : tie.Need-write-hyper-requires
 write-hyper-requires c κs = search needs

@@ -15,13 +15,13 @@ use Rattle.xdr.proofs.Octets.{octets-length}
 use Rattle.xdr.proofs.Writing.{stored-next, stored-length, wrote-fits, wrote-length}
 use Rattle.sflow.specs.Grammar.{Fits, Each, octetsOfEach}
 use Rattle.sflow.proofs.Items.{each-length}
 use Rattle.form_writer.specs.declared.parts.WriteAnswer.{WriteAnswer}
 use Rattle.form_writer.specs.declared.parts.WriteAnswer.the-variants.{Done, BadValue, NoRoom}
 use Rattle.form_writer.specs.Parts.{outcome, writeAlone, writeValue, wordsOctets}
-use Rattle.form_writer.specs.CounterValues.{WordOrHyper, fitEach}
+use Rattle.sample_writer.specs.CounterValues.{WordOrHyper, fitEach}
 use Rattle.form_writer.proofs.WordRuns.{words-length, stored-nothing}
 use Rattle.form_writer.proofs.Stores.{alone-fits, alone-full}
-use Rattle.form_writer.proofs.FitTests.{first-width, fits-told, fits-length}
+use Rattle.sample_writer.proofs.FitTests.{first-width, fits-told, fits-length}
 
 -- Numbers stored up to the index i, and the offset p behind them: with those that are left, the buffer is as with all.
 pub record Putting (d₀ : List ℕ) (at : ℕ) (ws ns d : List ℕ) (i p : ℕ) : Type 0 where

@@ -13,7 +13,8 @@ use borrow.Author.Tests.{eqb-true, ltb-true, lt-ltb}
 use Rattle.xdr.proofs.Reading.{never}
 use Rattle.sflow.specs.Grammar.{Fits, Each}
 use Rattle.counter_data.specs.CounterBodies.{wordsAndHypers}
-use Rattle.form_writer.specs.CounterValues.{WordOrHyper, fitEach}
+use Rattle.form_writer.proofs.Allowances.{both-held}
+use Rattle.sample_writer.specs.CounterValues.{WordOrHyper, fitEach}
 
 -- ---- one number
 
@@ -48,18 +49,13 @@ first-width ws i h e = rw add-one (rw (drop-cons ws i 0 h) at e)
 
 -- ---- the test of all numbers
 
--- where one test and then another pass, each passes
-pub both-pass : (a b : Bool) → cond a b false ≡ true → (a ≡ true) × (b ≡ true)
-both-pass true b e = (refl, e)
-both-pass false b e = absurd (never (cc))
-
 -- numbers that pass the test fit their widths as the grammar says it
 pub fits-told : (ws ns : List ℕ) → fitEach ws ns ≡ true → Fits ws ns
 unfolding fitEach
 fits-told [] [] e = tt
 fits-told [] (v ∷ vs) e = absurd (never (cc))
 fits-told (w ∷ ws) [] e = absurd (never (cc))
-fits-told (w ∷ ws) (v ∷ vs) e = let h = both-pass (ltb v (256 ^ w)) (fitEach ws vs) e in (ltb-true v (256 ^ w) (h .0), fits-told ws vs (h .1))
+fits-told (w ∷ ws) (v ∷ vs) e = let h = both-held (ltb v (256 ^ w)) (fitEach ws vs) e in (ltb-true v (256 ^ w) (h .0), fits-told ws vs (h .1))
 
 -- and numbers that fit their widths as the grammar says it pass the test
 pub fits-tested : (ws ns : List ℕ) → Fits ws ns → fitEach ws ns ≡ true

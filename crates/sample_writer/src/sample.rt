@@ -1,12 +1,12 @@
 // Flow samples, with their type word.
-use crate::parts::WriteAnswer;
 use fields::strings::Passed;
+use form_writer::parts::WriteAnswer;
 use reader::sample::FlowWords;
 use xdr::Written;
 ghost use mathlib.Core.Path.{_≡_};
 ghost use Rattle.form_writer.specs.Parts.{outcome, writeValue};
 ghost use Rattle.sflow.specs.Datagram.{sample-type};
-ghost use Rattle.form_writer.specs.FlowValues.{isOne, flowAllowed, flowOctets};
+ghost use Rattle.sample_writer.specs.FlowValues.{isOne, flowAllowed, flowOctets};
 
 // A flow sample: its words, packet data as octets that their writer wrote, and so many extended entries as octets that their writers wrote.
 pub fn write_flow(
@@ -43,7 +43,7 @@ pub fn write_flow(
         w.output,
     ];
     let middle = [count];
-    crate::parts::write_joined(d, &head, packet, &middle, extended)
+    form_writer::parts::write_joined(d, &head, packet, &middle, extended)
 }
 
 // A sample given as octets.

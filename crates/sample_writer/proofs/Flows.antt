@@ -9,8 +9,8 @@ use Rattle.sflow.specs.Decode.{entries, decode}
 use Rattle.sflow.specs.Datagram.{packet-data-type, extended-data-type}
 use Rattle.fields.specs.declared.strings.Passed.the-variants.{Next, Refused}
 use Rattle.fields.specs.Parts.{asPassed}
-use Rattle.form_writer.specs.FlowValues.{flowAllowed}
+use Rattle.sample_writer.specs.FlowValues.{flowAllowed}
 use Rattle.form_writer.proofs.Allowed.{ends-there, ends-elsewhere, ends-nowhere}
 
 module _ (packet : List ℕ) (count : ℕ) (extended : List ℕ) where
   pub packet-refused : (why : Refusal) (p : ℕ) → asPassed (decode packet-data-type packet 0) ≡ Refused why p

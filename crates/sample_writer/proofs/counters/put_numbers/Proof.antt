@@ -2,9 +2,9 @@ use Prim.Native.Nat.{_-_}
 use lib.ListN.{length}
 use borrow.Author.Needs.{needs}
 use native.Mathlib.Omega.{arith}
-use Rattle.form_writer.proofs.NumberRuns.{Putting, put-start, put-next, put-step, put-end}
-use Rattle.form_writer.proofs.counters.put_numbers.Statement.{statement}
-use Rattle.form_writer.proofs.counters.put_numbers.Tie as tie
+use Rattle.sample_writer.proofs.NumberRuns.{Putting, put-start, put-next, put-step, put-end}
+use Rattle.sample_writer.proofs.counters.put_numbers.Statement.{statement}
+use Rattle.sample_writer.proofs.counters.put_numbers.Tie as tie
 
 -- The numbers that are stored and those that are left make the whole. The measure is how many are left.
 abbrev Inv-loop : tie.InvT-loop

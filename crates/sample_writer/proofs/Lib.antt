@@ -1,0 +1,5 @@
+pub mod FitTests
+pub mod NumberRuns
+pub mod CounterForms
+pub mod Flows
+pub mod OneSample

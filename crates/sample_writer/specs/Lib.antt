@@ -1,0 +1,2 @@
+pub mod FlowValues
+pub mod CounterValues
