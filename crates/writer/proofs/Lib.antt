@@ -3,5 +3,3 @@ pub mod Limits
 pub mod SoFar
 pub mod Starts
 pub mod Theorems
-pub mod Values
-pub mod Cases

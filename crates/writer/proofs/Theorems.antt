@@ -1,40 +1,45 @@
 -- What start and append leave is read again. Assumes nothing.
-use Prim.Native.Nat.{ℕ, _+_, _^_, _≤_, _<_}
+use Prim.Native.Nat.{ℕ, _+_, _≤_, _<_}
 use native.Mathlib.Omega.{arith}
-use Prim.{tt}
-use mathlib.Core.Path.{_≡_, refl, sym, ap, subst, _∙_}
+use mathlib.Core.Path.{_≡_, refl, sym, ap, _∙_}
 use mathlib.Core.Bool.{Bool, true, false, cond}
 use mathlib.Core.List.{List, [], _∷_, _++_, flatMap, append-assoc, append-nil}
 use lib.ListN.{length, take, drop, length-append, length-take, take-append-drop}
 use lib.Seq.{take-at, drop-append-add, drop-length}
-use lib.Dec.{leb, eqb}
-use borrow.Author.Tests.{le-leb, lt-leb, le-ltb, leb-true, leb-false}
+use lib.Dec.{eqb}
+use borrow.Author.Tests.{eq-eqb, le-leb, lt-leb, le-ltb}
 use Rattle.xdr.specs.Numbers.{Octets, octetsOf}
 use Rattle.xdr.specs.Items.{sum}
 use Rattle.xdr.specs.Writes.{stored}
 use Rattle.xdr.proofs.Octets.{octets-length}
 use Rattle.xdr.proofs.Writing.{stored-length, stored-front, stored-next}
-use Rattle.sflow.specs.Grammar.{Value, Valid, Each, case, chosen, octetsOfEach, encode}
-use Rattle.sflow.specs.Decode.{found}
+use Rattle.sflow.specs.Grammar.{Form, Value, Valid, case, chosen, octetsOfEach, encode}
+use Rattle.sflow.specs.Decode.{found, decode}
 use Rattle.sflow.specs.Datagram.{int, ip-v4, ip-v6, address, sample-type, sample-datagram, agentAddress, samples}
 use Rattle.sflow.specs.Reading.{longest, readDatagram}
 use Rattle.sflow.specs.Slices.{Slice}
 use Rattle.sflow.proofs.Complete.{complete}
 use Rattle.sflow.proofs.Slices.{octets-take}
 use Rattle.sflow.proofs.Items.{each-length}
-use Rattle.sflow.proofs.Theorems.{accepted-exactly}
+use Rattle.sflow.proofs.Theorems.{encoded-is-read, accepted-exactly}
 use Rattle.fields.specs.declared.address.Address.{Address}
 use Rattle.form_writer.specs.declared.parts.WriteAnswer.the-variants.{Done, NoRoom}
 use Rattle.form_writer.specs.Parts.{Outcome, outcome, writeAlone}
 use Rattle.form_writer.specs.Values.{addressAllowed}
 use Rattle.sample_writer.specs.FlowValues.{isOne}
 use Rattle.writer.specs.declared.Checked.the-variants.{Ready}
-use Rattle.writer.specs.Datagrams.{limitAllowed, startValue, started, countAt, checkedAt, appended}
-use Rattle.writer.specs.Rewriting.{withSamples, appendedAll}
+use Rattle.writer.specs.Datagrams.{limitAllowed, startValue, started, countAt, checkedAt, appended, withSamples}
 use Rattle.writer.proofs.Limits.{limit-allowed}
-use Rattle.writer.proofs.Values.{one-again}
 
 -- ---- the octets of a value are read as that value
+
+-- the octets of a value are exactly one
+pub one-again : (g : Form) (v : Value g) → Valid g v → isOne g (encode g v) ≡ true
+one-again g v h =
+    let e : decode g (encode g v ++ []) 0 ≡ found v (0 + length (encode g v)) = encoded-is-read g v h [] [] in
+    let f : decode g (encode g v) 0 ≡ found v (0 + length (encode g v)) = rw append-nil at e in
+    let z : 0 + length (encode g v) ≡ length (encode g v) = omega arith in
+    rw (f, z) (eq-eqb (length (encode g v)) (length (encode g v)) refl)
 
 whole-slice : (xs : List ℕ) → Slice xs 0 (length xs) xs
 whole-slice xs = record { low = omega arith; high = omega arith; split = rw (drop-length xs, append-nil) }
@@ -69,12 +74,12 @@ ahead-long v h =
     let c : length (octetsOfEach (int ∷ int ∷ []) (v .1 .1 .0)) ≡ 8 = each-length (int ∷ int ∷ []) (v .1 .1 .0) (h .2 .1 .0) in
     rw (length-append, length-append) (omega arith)
 
-flat-append : {A : Type 0} (f : A → List ℕ) (vs ws : List A) → flatMap f (vs ++ ws) ≡ flatMap f vs ++ flatMap f ws
+pub flat-append : {A : Type 0} (f : A → List ℕ) (vs ws : List A) → flatMap f (vs ++ ws) ≡ flatMap f vs ++ flatMap f ws
 unfolding flatMap
 flat-append f [] ws = refl
 flat-append f (v ∷ vs) ws = ap (λ (xs : List ℕ). f v ++ xs) (flat-append f vs ws) ∙ sym (append-assoc (f v) (flatMap f vs) (flatMap f ws))
 
-flat-one : {A : Type 0} (f : A → List ℕ) (w : A) → flatMap f (w ∷ []) ≡ f w
+pub flat-one : {A : Type 0} (f : A → List ℕ) (w : A) → flatMap f (w ∷ []) ≡ f w
 unfolding flatMap
 flat-one f w = append-nil (f w)
 
@@ -124,11 +129,11 @@ module _ (limit : ℕ) (d : List ℕ) (allowed : limitAllowed limit (length d) �
       rw (l, allowed, le-leb (length xs) limit small, f, value-accepted v valid (omega arith))
 
   -- one that fits stands behind the others, and the rest of the buffer is as it was
-  pub append-fits : (w : Value sample-type) → Valid sample-type w → length (encode sample-datagram v) + length (encode sample-type w) ≤ limit
-      → appended (isOne sample-type (encode sample-type w)) (encode sample-type w) limit (length (encode sample-datagram v)) (stored d 0 (encode sample-datagram v))
+  pub append-fits : (w : Value sample-type) (good : Bool) → good ≡ true → length (encode sample-datagram v) + length (encode sample-type w) ≤ limit
+      → appended good (encode sample-type w) limit (length (encode sample-datagram v)) (stored d 0 (encode sample-datagram v))
       ≡ outcome (Done (length (encode sample-datagram (withSamples v (samples v ++ (w ∷ [])))))) (stored d 0 (encode sample-datagram (withSamples v (samples v ++ (w ∷ [])))))
   unfolding appended
-  append-fits w h fits =
+  append-fits w good h fits =
       let xs : List ℕ = encode sample-datagram v in
       let ys : List ℕ = encode sample-type w in
       let k : List ℕ = octetsOf 4 (length (samples v)) in
@@ -144,34 +149,19 @@ module _ (limit : ℕ) (d : List ℕ) (allowed : limitAllowed limit (length d) �
       stored-inside d (ahead v) k (body ++ ys) c (omega arith) in
       let long : length xs + length ys ≡ length (ahead v ++ (c ++ (body ++ ys))) =
       sym (length-append xs ys) ∙ ap length parts ∙ as-long (ahead v) k (body ++ ys) c (kl ∙ sym cl) in
-      rw (so-far-ready, one-again sample-type w h, le-leb (length xs + length ys) limit fits, next, parts, ← ahead-long v valid, raised, long, encoded-more v (samples v) w)
+      rw (so-far-ready, h, le-leb (length xs + length ys) limit fits, next, parts, ← ahead-long v valid, raised, long, encoded-more v (samples v) w)
 
   -- one that does not fit changes nothing
-  pub append-full : (w : Value sample-type) → Valid sample-type w → limit < length (encode sample-datagram v) + length (encode sample-type w)
-      → appended (isOne sample-type (encode sample-type w)) (encode sample-type w) limit (length (encode sample-datagram v)) (stored d 0 (encode sample-datagram v))
+  pub append-full : (w : Value sample-type) (good : Bool) → good ≡ true → limit < length (encode sample-datagram v) + length (encode sample-type w)
+      → appended good (encode sample-type w) limit (length (encode sample-datagram v)) (stored d 0 (encode sample-datagram v))
       ≡ outcome NoRoom (stored d 0 (encode sample-datagram v))
   unfolding appended
-  append-full w h full = rw (so-far-ready, one-again sample-type w h, lt-leb (length (encode sample-datagram v) + length (encode sample-type w)) limit full)
+  append-full w good h full = rw (so-far-ready, h, lt-leb (length (encode sample-datagram v) + length (encode sample-type w)) limit full)
 
--- ---- all samples of a datagram, one behind the other
+-- ---- lengths
 
-each-front : {A : Type 0} (P : A → Type 0) (xs ys : List A) → Each P (xs ++ ys) → Each P xs
-each-front P [] ys e = tt
-each-front P (x ∷ xs) ys e = (e .0, each-front P xs ys (e .1))
-
-each-back : {A : Type 0} (P : A → Type 0) (xs ys : List A) → Each P (xs ++ ys) → Each P ys
-each-back P [] ys e = e
-each-back P (x ∷ xs) ys e = each-back P xs ys (e .1)
-
-valid-front : (v : Value sample-datagram) (xs ys : List (Value sample-type)) → Valid sample-datagram (withSamples v (xs ++ ys))
-    → Valid sample-datagram (withSamples v xs)
-valid-front v xs ys h =
-    let n : length (xs ++ ys) < 2 ^ 32 = h .2 .1 .1 .0 in
-    let l : length (xs ++ ys) ≡ length xs + length ys = length-append xs ys in
-    let m : length xs < 2 ^ 32 = omega arith in
-    (h .0, h .1, (h .2 .0, (h .2 .1 .0, (m, each-front (Valid sample-type) xs ys (h .2 .1 .1 .1)))))
-
-encoded-length : (v : Value sample-datagram) (ws : List (Value sample-type))
+-- the length of a datagram: what stands before its samples, and the samples
+pub encoded-length : (v : Value sample-datagram) (ws : List (Value sample-type))
     → length (encode sample-datagram (withSamples v ws)) ≡ length (ahead v) + 4 + length (flatMap (encode sample-type) ws)
 encoded-length v ws =
     let l : length (octetsOf 4 (length ws)) ≡ 4 = octets-length 4 (length ws) in
@@ -187,89 +177,9 @@ encoded-total v ws h =
     let a : length (ahead (withSamples v ws)) ≡ countAt (withSamples v ws) = ahead-long (withSamples v ws) h in
     omega arith
 
--- with more samples behind, a datagram is longer by their octets
-encoded-longer : (v : Value sample-datagram) (xs ys : List (Value sample-type))
-    → length (encode sample-datagram (withSamples v (xs ++ ys))) ≡ length (encode sample-datagram (withSamples v xs)) + length (flatMap (encode sample-type) ys)
-encoded-longer v xs ys =
-    let a = encoded-length v (xs ++ ys) in
-    let b = encoded-length v xs in
-    let c : length (flatMap (encode sample-type) (xs ++ ys)) ≡ length (flatMap (encode sample-type) xs) + length (flatMap (encode sample-type) ys) =
-    rw (flat-append (encode sample-type) xs ys) (length-append (flatMap (encode sample-type) xs) (flatMap (encode sample-type) ys)) in
-    omega arith
-
-first-length : (w : Value sample-type) (ws : List (Value sample-type))
-    → length (flatMap (encode sample-type) (w ∷ ws)) ≡ length (encode sample-type w) + length (flatMap (encode sample-type) ws)
-unfolding flatMap
-first-length w ws = length-append (encode sample-type w) (flatMap (encode sample-type) ws)
-
 -- a buffer that holds a datagram at its beginning, and its length
 abbrev pub holds : List ℕ → Value sample-datagram → Outcome
 holds d v = outcome (Done (length (encode sample-datagram v))) (stored d 0 (encode sample-datagram v))
-
--- once there is no room, nothing more is written
-stays-full : (limit : ℕ) (d : List ℕ) (ws : List (Value sample-type)) → appendedAll limit (outcome NoRoom d) ws ≡ outcome NoRoom d
-stays-full limit d [] = refl
-stays-full limit d (w ∷ ws) = stays-full limit d ws
-
-module _ (limit : ℕ) (d : List ℕ) (allowed : limitAllowed limit (length d) ≡ true) (v : Value sample-datagram) where
-  -- where all fit, all are there
-  pub append-all : (xs ws : List (Value sample-type)) → Valid sample-datagram (withSamples v (xs ++ ws))
-      → length (encode sample-datagram (withSamples v (xs ++ ws))) ≤ limit
-      → appendedAll limit (holds d (withSamples v xs)) ws ≡ holds d (withSamples v (xs ++ ws))
-  append-all xs [] h fits = rw append-nil
-  append-all xs (w ∷ ws) h fits =
-      let l = encoded-longer v xs (w ∷ ws) in
-      let m = first-length w ws in
-      let here : Valid sample-datagram (withSamples v xs) = valid-front v xs (w ∷ ws) h in
-      let one : Valid sample-type w = each-back (Valid sample-type) xs (w ∷ ws) (h .2 .1 .1 .1) .0 in
-      let step = append-fits limit d allowed (withSamples v xs) here (omega arith) w one (omega arith) in
-      let s : (xs ++ (w ∷ [])) ++ ws ≡ xs ++ (w ∷ ws) = append-assoc xs (w ∷ []) ws in
-      rw step (rw s at (append-all (xs ++ (w ∷ [])) ws (rw s h) (rw s fits)))
-
-  -- where they do not all fit, some append answers that there is no room, and the samples before it are there
-  pub record Stopped (xs ws : List (Value sample-type)) : Type 0 where
-    pub written : List (Value sample-type)
-    pub next : Value sample-type
-    pub behind : List (Value sample-type)
-    pub split : xs ++ ws ≡ written ++ (next ∷ behind)
-    pub full : limit < length (encode sample-datagram (withSamples v (written ++ (next ∷ []))))
-    pub left : appendedAll limit (holds d (withSamples v xs)) ws ≡ outcome NoRoom (stored d 0 (encode sample-datagram (withSamples v written)))
-
-  pub append-stops : (xs ws : List (Value sample-type)) → Valid sample-datagram (withSamples v (xs ++ ws))
-      → length (encode sample-datagram (withSamples v xs)) ≤ limit → limit < length (encode sample-datagram (withSamples v (xs ++ ws)))
-      → Stopped xs ws
-  append-stops xs [] h small long =
-      let l : length (encode sample-datagram (withSamples v (xs ++ []))) ≡ length (encode sample-datagram (withSamples v xs)) = rw append-nil in
-      absurd (omega arith)
-  append-stops xs (w ∷ ws) h small long =
-      go (leb (length (encode sample-datagram (withSamples v xs)) + length (encode sample-type w)) limit) refl
-      (λ f. append-stops (xs ++ (w ∷ [])) ws (rw s h) f (rw s long))
-    where
-      here : Valid sample-datagram (withSamples v xs)
-      here = valid-front v xs (w ∷ ws) h
-
-      one : Valid sample-type w
-      one = each-back (Valid sample-type) xs (w ∷ ws) (h .2 .1 .1 .1) .0
-
-      s : (xs ++ (w ∷ [])) ++ ws ≡ xs ++ (w ∷ ws)
-      s = append-assoc xs (w ∷ []) ws
-
-      more : length (encode sample-datagram (withSamples v (xs ++ (w ∷ [])))) ≡ length (encode sample-datagram (withSamples v xs)) + length (encode sample-type w)
-      more = encoded-longer v xs (w ∷ []) ∙ rw (flat-one (encode sample-type) w)
-
-      go : (b : Bool) → leb (length (encode sample-datagram (withSamples v xs)) + length (encode sample-type w)) limit ≡ b
-          → (length (encode sample-datagram (withSamples v (xs ++ (w ∷ [])))) ≤ limit → Stopped (xs ++ (w ∷ [])) ws) → Stopped xs (w ∷ ws)
-      go true e rest =
-          let f : length (encode sample-datagram (withSamples v xs)) + length (encode sample-type w) ≤ limit = leb-true _ _ e in
-          let m = more in
-          let r = rest (omega arith) in
-          let step = append-fits limit d allowed (withSamples v xs) here small w one f in
-          record { written = r .written; next = r .next; behind = r .behind; split = sym s ∙ r .split; full = r .full; left = rw step (r .left) }
-      go false e rest =
-          let f : limit < length (encode sample-datagram (withSamples v xs)) + length (encode sample-type w) = leb-false _ _ e in
-          let m = more in
-          let step = append-full limit d allowed (withSamples v xs) here small w one f in
-          record { written = xs; next = w; behind = ws; split = refl; full = omega arith; left = rw step (stays-full limit _ ws) }
 
 -- ---- a datagram without samples
 
@@ -295,7 +205,7 @@ address-short a h =
 
 module _ (limit : ℕ) (d : List ℕ) (allowed : limitAllowed limit (length d) ≡ true) (agent : Address) (sequence uptime : ℕ)
     (of-agent : addressAllowed agent ≡ true) (valid : Valid sample-datagram (startValue agent sequence uptime)) where
-  start-short : length (encode sample-datagram (startValue agent sequence uptime)) ≤ limit
+  pub start-short : length (encode sample-datagram (startValue agent sequence uptime)) ≤ limit
   start-short =
       let v : Value sample-datagram = startValue agent sequence uptime in
       let l = encoded-length v [] in
@@ -312,39 +222,6 @@ module _ (limit : ℕ) (d : List ℕ) (allowed : limitAllowed limit (length d) �
       let i : limit ≤ length d = limit-allowed limit (length d) allowed .inside in
       let f : length (encode sample-datagram (startValue agent sequence uptime)) ≤ length d = omega arith in
       rw (allowed, of-agent, le-leb (length (encode sample-datagram (startValue agent sequence uptime))) (length d) f)
-
--- ---- demand 2: writing the values of an accepted datagram again
-
-module _ (s : List ℕ) (octets : Octets s) (v : Value sample-datagram) (accepted : readDatagram s ≡ found v (length s))
-    (limit : ℕ) (d : List ℕ) (allowed : limitAllowed limit (length d) ≡ true)
-    (agent : Address) (sequence uptime : ℕ) (of-agent : addressAllowed agent ≡ true) (same : startValue agent sequence uptime ≡ withSamples v []) where
-  all-valid : Valid sample-datagram v
-  all-valid = accepted-exactly s octets v .0 accepted .1
-
-  start-valid : Valid sample-datagram (startValue agent sequence uptime)
-  start-valid = subst (λ (x : Value sample-datagram). Valid sample-datagram x) (sym same) (valid-front v [] (samples v) all-valid)
-
-  started-same : started limit agent sequence uptime d ≡ holds d (withSamples v [])
-  started-same = start-holds limit d allowed agent sequence uptime of-agent start-valid ∙ ap (holds d) same
-
-  -- gives the same octets where they fit the limit, and the rest of the buffer is as it was
-  pub same-octets : length s ≤ limit
-      → appendedAll limit (started limit agent sequence uptime d) (samples v) ≡ outcome (Done (length s)) (stored d 0 s)
-  same-octets fits =
-      let e : s ≡ encode sample-datagram v = accepted-exactly s octets v .0 accepted .2 in
-      let l : length s ≡ length (encode sample-datagram v) = ap length e in
-      rw started-same
-      (append-all limit d allowed v [] (samples v) all-valid (omega arith) ∙ ap (λ (xs : List ℕ). outcome (Done (length xs)) (stored d 0 xs)) (sym e))
-
-  -- and otherwise stops with the samples that fit
-  pub never-more : limit < length s → Stopped limit d allowed v [] (samples v)
-  never-more long =
-      let e : s ≡ encode sample-datagram v = accepted-exactly s octets v .0 accepted .2 in
-      let l : length s ≡ length (encode sample-datagram v) = ap length e in
-      let h = start-short limit d allowed agent sequence uptime of-agent start-valid in
-      let k : length (encode sample-datagram (startValue agent sequence uptime)) ≡ length (encode sample-datagram (withSamples v [])) =
-      ap (λ (x : Value sample-datagram). length (encode sample-datagram x)) same in
-      append-stops limit d allowed v [] (samples v) all-valid (omega arith) (omega arith)
 
 -- ---- what is left is accepted
 
@@ -386,4 +263,4 @@ append-more d o size v e limit allowed small w h fits =
     let whole : d ≡ stored d 0 (encode sample-datagram v) = sym (stored-same d size (omega arith)) ∙ ap (stored d 0) s in
     ap (λ (k : ℕ). appended (isOne sample-type ys) ys limit k d) (l ∙ n)
     ∙ ap (λ (x : List ℕ). appended (isOne sample-type ys) ys limit (length (encode sample-datagram v)) x) whole
-    ∙ append-fits limit d allowed v (r .1) (omega arith) w h (omega arith)
+    ∙ append-fits limit d allowed v (r .1) (omega arith) w (isOne sample-type ys) (one-again sample-type w h) (omega arith)

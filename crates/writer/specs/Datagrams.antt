@@ -9,7 +9,7 @@ use Rattle.xdr.specs.Numbers.{octetsOf}
 use Rattle.xdr.specs.Writes.{stored}
 use Rattle.sflow.specs.Grammar.{Value, encode}
 use Rattle.sflow.specs.Decode.{Decoded, found, refused}
-use Rattle.sflow.specs.Datagram.{address, sample-datagram, agentAddress, samples}
+use Rattle.sflow.specs.Datagram.{address, sample-type, sample-datagram, agentAddress, samples}
 use Rattle.sflow.specs.Reading.{longest, readDatagram}
 use Rattle.fields.specs.declared.address.Address.{Address}
 use Rattle.form_writer.specs.declared.parts.WriteAnswer.{WriteAnswer}
@@ -78,3 +78,7 @@ counted at count size NoRoom d = outcome NoRoom d
 pub record Fitting (at size : ℕ) (answer : WriteAnswer) (d : List ℕ) : Type 0 where
   pub word : at + 4 ≤ length d
   pub end : (n : ℕ) → answer ≡ Done n → size + n ≤ length d
+
+-- a datagram with other samples, for what is said of append
+abbrev pub withSamples : Value sample-datagram → List (Value sample-type) → Value sample-datagram
+withSamples v ws = (v .0, (v .1 .0, (v .1 .1 .0, ws)))

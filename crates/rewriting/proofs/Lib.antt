@@ -1,0 +1,7 @@
+pub mod Fields
+pub mod Entries
+pub mod Packets
+pub mod Extended
+pub mod Samples
+pub mod Theorems
+pub mod Cases
