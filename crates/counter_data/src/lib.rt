@@ -5,8 +5,8 @@ use xdr::HyperRead;
 use xdr::WordRead;
 ghost use mathlib.Core.Path.{_≡_};
 ghost use mathlib.Core.List.{[]};
-ghost use Prim.Native.Nat.{_+_, _≤_};
-ghost use lib.Dec.{T, leb};
+ghost use Prim.Native.Nat.{_≤_};
+ghost use lib.Dec.{T};
 ghost use lib.ListN.{length};
 ghost use Rattle.xdr.specs.Items.{sum};
 ghost use Rattle.sflow.specs.Grammar.{fixed, chosen};
@@ -55,17 +55,7 @@ fn body_size(version: u32) -> usize
     }
 }
 
-// Whether so many octets are there from an offset on.
-fn are_there(s: &[u8], at: usize, count: usize) -> bool
-    ensures { λ r. ⌜ r ≡ leb (at + count) (length (now (s .entry))) ⌝ }
-{
-    if s.len() < at {
-        return false;
-    }
-    count <= s.len() - at
-}
-
-// The counters of a version by their widths, for the place where they are cut short.
+// The counters of a version, a run of its widths: size octets where all of them are there.
 fn pass_each(s: &[u8], at: usize, version: u32, size: usize) -> Passed
     requires { ⌜ size ≡ sum (chosen [] counters-versions version) ⌝ }
     ensures { λ r. ⌜ r ≡ asPassed (decode (fixed (chosen [] counters-versions version)) (now (s .entry)) at) ⌝ }
@@ -94,9 +84,6 @@ pub fn read_counter_body(s: &[u8], at: usize) -> CounterBodyRead
         return CounterBodyRead::Refused(Refusal::CountersVersion, at);
     }
     let size = body_size(version);
-    if are_there(s, first, size) {
-        return CounterBodyRead::Found(CounterBody { version, at: first }, first + size);
-    }
     match pass_each(s, first, version, size) {
         Passed::Next(next) => CounterBodyRead::Found(CounterBody { version, at: first }, next),
         Passed::Refused(why, p) => CounterBodyRead::Refused(why, p),
@@ -117,9 +104,6 @@ pub fn pass_counters(s: &[u8], at: usize) -> Passed
         return Passed::Refused(Refusal::CountersVersion, at);
     }
     let size = body_size(version);
-    if are_there(s, first, size) {
-        return Passed::Next(first + size);
-    }
     pass_each(s, first, version, size)
 }
 
