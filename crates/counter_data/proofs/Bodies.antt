@@ -1,14 +1,16 @@
 -- What passing over counters finds, by what the reads of their items answer. Assumes nothing.
-use Prim.Native.Nat.{ℕ, zero, suc, _≤_, _<_}
+use Prim.Native.Nat.{ℕ, zero, suc, _+_, _-_, _≤_, _<_}
 use native.Mathlib.Omega.{arith}
 use mathlib.Core.Path.{_≡_, refl, sym, ap, _∙_}
 use mathlib.Core.Logic.{_⊎_, inl, inr, ⊎-elim}
 use mathlib.Core.List.{List, []}
 use mathlib.Core.Bool.{true, false}
+use lib.ListN.{length}
 use borrow.Author.Tests.{ne-eqb}
 use Rattle.xdr.specs.Items.{wordAt, runAt, sum}
 use Rattle.xdr.specs.declared.WordRead.the-variants.{Word, CutWord}
 use Rattle.xdr.proofs.Reading.{word-read}
+use Rattle.xdr.proofs.Runs.{run-whole}
 use Rattle.sflow.specs.declared.Refusal.{Refusal}
 use Rattle.sflow.specs.declared.Refusal.the-variants.{CutItem, CountersVersion}
 use Rattle.sflow.specs.Grammar.{Form, fixed, listed, chosen}
@@ -82,6 +84,13 @@ pub body-run : (s : List ℕ) (at size v n : ℕ) (r : Passed) → v ≡ n → s
     → r ≡ asPassed (decode (formOf v) s at)
 body-run s at size v n r e t f =
     sym (passed-run s at size (widthsOf v) r t (ap (λ (m : ℕ). asRun (runAt s at size (widthsOf m))) e ∙ sym f))
+
+-- counters whose octets are all there
+pub body-there : (s : List ℕ) (at size v : ℕ) → size ≡ sum (widthsOf v) → at ≤ length s → size ≤ length s - at
+    → Next (at + size) ≡ asPassed (decode (formOf v) s at)
+body-there s at size v t h k =
+    let room : at + size ≤ length s = omega arith in
+    sym (passed-run s at size (widthsOf v) (Next (at + size)) t (ap asRun (run-whole s at size (widthsOf v) room)))
 
 -- no counters, nothing to pass over
 pub body-none : (s : List ℕ) (at : ℕ) (ws : List ℕ) → ws ≡ [] → Next at ≡ asPassed (decode (fixed ws) s at)

@@ -55,7 +55,7 @@ fn body_size(version: u32) -> usize
     }
 }
 
-// The counters of a version, a run of its widths: size octets where all of them are there.
+// The counters of a version by their widths, for the place where they are cut short.
 fn pass_each(s: &[u8], at: usize, version: u32, size: usize) -> Passed
     requires { ⌜ size ≡ sum (chosen [] counters-versions version) ⌝ }
     ensures { λ r. ⌜ r ≡ asPassed (decode (fixed (chosen [] counters-versions version)) (now (s .entry)) at) ⌝ }
@@ -68,6 +68,20 @@ fn pass_each(s: &[u8], at: usize, version: u32, size: usize) -> Passed
         7 => fields::runs::pass_run(s, at, size, &VLAN_WIDTHS),
         _ => Passed::Next(at),
     }
+}
+
+// The counters of a version, a run of free items: one comparison tells where all are there.
+fn pass_body(s: &[u8], at: usize, version: u32) -> Passed
+    ensures { λ r. ⌜ r ≡ asPassed (decode (fixed (chosen [] counters-versions version)) (now (s .entry)) at) ⌝ }
+{
+    let size = body_size(version);
+    if s.len() < at {
+        return pass_each(s, at, version, size);
+    }
+    if s.len() - at < size {
+        return pass_each(s, at, version, size);
+    }
+    Passed::Next(at + size)
 }
 
 // Counters at their version word.
@@ -83,8 +97,7 @@ pub fn read_counter_body(s: &[u8], at: usize) -> CounterBodyRead
     if 7 < version {
         return CounterBodyRead::Refused(Refusal::CountersVersion, at);
     }
-    let size = body_size(version);
-    match pass_each(s, first, version, size) {
+    match pass_body(s, first, version) {
         Passed::Next(next) => CounterBodyRead::Found(CounterBody { version, at: first }, next),
         Passed::Refused(why, p) => CounterBodyRead::Refused(why, p),
     }
@@ -103,8 +116,7 @@ pub fn pass_counters(s: &[u8], at: usize) -> Passed
     if 7 < version {
         return Passed::Refused(Refusal::CountersVersion, at);
     }
-    let size = body_size(version);
-    pass_each(s, first, version, size)
+    pass_body(s, first, version)
 }
 
 // How many counters were found, of which version.

@@ -23,14 +23,11 @@ returns-2 c = sym (passed-view _ _ _ _ _ (body-bad _ _ _ _ (sym (c .before .befo
 returns-3 : tie.Need-returns-3
 returns-3 c = sym (passed-view _ _ _ _ _ (body-bad _ _ _ _ (sym (c .before .before .before .before .before .read-word .ensures) ∙ c .before .before .before .version .given .1) (version-over _ (c .if2 .taken))))
 
-body-size-requires : tie.Need-body-size-requires
-body-size-requires c κs = search needs
-
-pass-each-requires : tie.Need-pass-each-requires
-pass-each-requires c κs = search needs
+pass-body-requires : tie.Need-pass-body-requires
+pass-body-requires c κs = search needs
 
 returns-4 : tie.Need-returns-4
-returns-4 c = c .pass-each .ensures ∙ sym (body-passed _ _ _ _ (sym (c .before .before .before .before .before .before .before .read-word .ensures) ∙ c .before .before .before .before .before .version .given .1) (version-listed _ (c .before .before .before .if1 .left) (c .before .before .if2 .left)))
+returns-4 c = c .pass-body .ensures ∙ sym (body-passed _ _ _ _ (sym (c .before .before .before .before .before .before .read-word .ensures) ∙ c .before .before .before .before .version .given .1) (version-listed _ (c .before .before .if1 .left) (c .before .if2 .left)))
 
 pub pass-counters-spec : {M : Type 1} → statement M
 pass-counters-spec =
@@ -42,6 +39,5 @@ pass-counters-spec =
     returns
     returns-2
     returns-3
-    body-size-requires
-    pass-each-requires
+    pass-body-requires
     returns-4)

@@ -23,11 +23,8 @@ returns-2 c = sym (ap asCounterBody (body-bad _ _ _ _ (sym (c .before .before .b
 returns-3 : tie.Need-returns-3
 returns-3 c = sym (ap asCounterBody (body-bad _ _ _ _ (sym (c .before .before .before .before .before .read-word .ensures) ∙ c .before .before .before .version .given .1) (version-over _ (c .if2 .taken))))
 
-body-size-requires : tie.Need-body-size-requires
-body-size-requires c κs = search needs
-
-pass-each-requires : tie.Need-pass-each-requires
-pass-each-requires c κs = search needs
+pass-body-requires : tie.Need-pass-body-requires
+pass-body-requires c κs = search needs
 
 enum-known-next : tie.Need-enum-known-next
 enum-known-next c = search needs
@@ -36,10 +33,10 @@ enum-known-why : tie.Need-enum-known-why
 enum-known-why c = search needs
 
 returns-4 : tie.Need-returns-4
-returns-4 c = sym (ap asCounterBody (body-found _ _ _ _ (sym (c .before .before .before .before .before .before .before .before .before .before .read-word .ensures) ∙ c .before .before .before .before .before .before .before .before .version .given .1) (version-listed _ (c .before .before .before .before .before .before .if1 .left) (c .before .before .before .before .before .if2 .left)) _ (sym (c .before .before .before .pass-each .ensures) ∙ c .before .next .given .1)))
+returns-4 c = sym (ap asCounterBody (body-found _ _ _ _ (sym (c .before .before .before .before .before .before .before .before .before .read-word .ensures) ∙ c .before .before .before .before .before .before .before .version .given .1) (version-listed _ (c .before .before .before .before .before .if1 .left) (c .before .before .before .before .if2 .left)) _ (sym (c .before .before .before .pass-body .ensures) ∙ c .before .next .given .1)))
 
 returns-5 : tie.Need-returns-5
-returns-5 c = sym (ap asCounterBody (body-refused _ _ _ _ (sym (c .before .before .before .before .before .before .before .before .before .before .read-word .ensures) ∙ c .before .before .before .before .before .before .before .before .version .given .1) (version-listed _ (c .before .before .before .before .before .before .if1 .left) (c .before .before .before .before .before .if2 .left)) _ _ (sym (c .before .before .before .pass-each .ensures) ∙ c .before .why .given .1)))
+returns-5 c = sym (ap asCounterBody (body-refused _ _ _ _ (sym (c .before .before .before .before .before .before .before .before .before .read-word .ensures) ∙ c .before .before .before .before .before .before .before .version .given .1) (version-listed _ (c .before .before .before .before .before .if1 .left) (c .before .before .before .before .if2 .left)) _ _ (sym (c .before .before .before .pass-body .ensures) ∙ c .before .why .given .1)))
 
 pub read-counter-body-spec : {M : Type 1} → statement M
 read-counter-body-spec =
@@ -51,8 +48,7 @@ read-counter-body-spec =
     returns
     returns-2
     returns-3
-    body-size-requires
-    pass-each-requires
+    pass-body-requires
     enum-known-next
     enum-known-why
     returns-4
