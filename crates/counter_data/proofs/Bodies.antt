@@ -4,10 +4,9 @@ use native.Mathlib.Omega.{arith}
 use mathlib.Core.Path.{_≡_, refl, sym, ap, _∙_}
 use mathlib.Core.Logic.{_⊎_, inl, inr, ⊎-elim}
 use mathlib.Core.List.{List, []}
-use mathlib.Core.Bool.{Bool, true, false}
+use mathlib.Core.Bool.{true, false}
 use lib.ListN.{length}
-use lib.Dec.{leb}
-use borrow.Author.Tests.{ne-eqb, le-leb, lt-leb, leb-true, leb-false}
+use borrow.Author.Tests.{ne-eqb}
 use Rattle.xdr.specs.Items.{wordAt, runAt, sum}
 use Rattle.xdr.specs.declared.WordRead.the-variants.{Word, CutWord}
 use Rattle.xdr.proofs.Reading.{word-read}
@@ -74,26 +73,6 @@ version-over v h =
     not-listed v (⊎-elim (λ e. omega arith) (⊎-elim (λ e. omega arith) (λ e. omega arith)))
     (λ e. omega arith) (λ e. omega arith) (λ e. omega arith) (λ e. omega arith)
 
--- ---- octets that are there
-
--- no octets behind the last, of which there are n
-pub none-there : (n at count : ℕ) → n < at → false ≡ leb (at + count) n
-none-there n at count h = let short : n < at + count = omega arith in sym (lt-leb (at + count) n short)
-
--- at most as many as are left
-pub left-there : (n at count : ℕ) → at ≤ n → leb count (n - at) ≡ leb (at + count) n
-left-there n at count h = go (leb count (n - at)) refl
-  where
-    go : (b : Bool) → leb count (n - at) ≡ b → b ≡ leb (at + count) n
-    go true e =
-        let k : count ≤ n - at = leb-true count (n - at) e in
-        let room : at + count ≤ n = omega arith in
-        sym (le-leb (at + count) n room)
-    go false e =
-        let k : n - at < count = leb-false count (n - at) e in
-        let short : n < at + count = omega arith in
-        sym (lt-leb (at + count) n short)
-
 -- ---- runs
 
 -- the octets of the counters of the version n are those of the version v, which is n
@@ -105,6 +84,13 @@ pub body-run : (s : List ℕ) (at size v n : ℕ) (r : Passed) → v ≡ n → s
     → r ≡ asPassed (decode (formOf v) s at)
 body-run s at size v n r e t f =
     sym (passed-run s at size (widthsOf v) r t (ap (λ (m : ℕ). asRun (runAt s at size (widthsOf m))) e ∙ sym f))
+
+-- counters whose octets are all there
+pub body-there : (s : List ℕ) (at size v : ℕ) → size ≡ sum (widthsOf v) → at ≤ length s → size ≤ length s - at
+    → Next (at + size) ≡ asPassed (decode (formOf v) s at)
+body-there s at size v t h k =
+    let room : at + size ≤ length s = omega arith in
+    sym (passed-run s at size (widthsOf v) (Next (at + size)) t (ap asRun (run-whole s at size (widthsOf v) room)))
 
 -- no counters, nothing to pass over
 pub body-none : (s : List ℕ) (at : ℕ) (ws : List ℕ) → ws ≡ [] → Next at ≡ asPassed (decode (fixed ws) s at)
@@ -129,12 +115,6 @@ module _ (s : List ℕ) (at v first : ℕ) (e : wordAt s at ≡ Word v first) (h
   -- the counters are left to pass over
   pub body-passed : asPassed (decode counters-type s at) ≡ asPassed (decode (formOf v) s first)
   body-passed = passed-alike (counterBodyOf at) (decode counters-type s at) (λ vs. counterBodyOf at (v, vs)) (decode (formOf v) s first) body-arm
-
-  -- counters whose octets are all there
-  pub body-there : (size : ℕ) → size ≡ sum (widthsOf v) → leb (first + size) (length s) ≡ true
-      → asPassed (decode (formOf v) s first) ≡ Next (first + size)
-  body-there size t k =
-      passed-run s first size (widthsOf v) (Next (first + size)) t (ap asRun (run-whole s first size (widthsOf v) (leb-true (first + size) (length s) k)))
 
   -- counters that are all there
   pub body-found : (next : ℕ) → asPassed (decode (formOf v) s first) ≡ Next next

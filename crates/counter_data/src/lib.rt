@@ -5,8 +5,8 @@ use xdr::HyperRead;
 use xdr::WordRead;
 ghost use mathlib.Core.Path.{_≡_};
 ghost use mathlib.Core.List.{[]};
-ghost use Prim.Native.Nat.{_+_, _≤_};
-ghost use lib.Dec.{T, leb};
+ghost use Prim.Native.Nat.{_≤_};
+ghost use lib.Dec.{T};
 ghost use lib.ListN.{length};
 ghost use Rattle.xdr.specs.Items.{sum};
 ghost use Rattle.sflow.specs.Grammar.{fixed, chosen};
@@ -55,16 +55,6 @@ fn body_size(version: u32) -> usize
     }
 }
 
-// Whether so many octets are there from an offset on.
-fn are_there(s: &[u8], at: usize, count: usize) -> bool
-    ensures { λ r. ⌜ r ≡ leb (at + count) (length (now (s .entry))) ⌝ }
-{
-    if s.len() < at {
-        return false;
-    }
-    count <= s.len() - at
-}
-
 // The counters of a version by their widths, for the place where they are cut short.
 fn pass_each(s: &[u8], at: usize, version: u32, size: usize) -> Passed
     requires { ⌜ size ≡ sum (chosen [] counters-versions version) ⌝ }
@@ -80,6 +70,20 @@ fn pass_each(s: &[u8], at: usize, version: u32, size: usize) -> Passed
     }
 }
 
+// The counters of a version, a run of free items: one comparison tells where all are there.
+fn pass_body(s: &[u8], at: usize, version: u32) -> Passed
+    ensures { λ r. ⌜ r ≡ asPassed (decode (fixed (chosen [] counters-versions version)) (now (s .entry)) at) ⌝ }
+{
+    let size = body_size(version);
+    if s.len() < at {
+        return pass_each(s, at, version, size);
+    }
+    if s.len() - at < size {
+        return pass_each(s, at, version, size);
+    }
+    Passed::Next(at + size)
+}
+
 // Counters at their version word.
 pub fn read_counter_body(s: &[u8], at: usize) -> CounterBodyRead
     ensures { λ r. ⌜ r ≡ asCounterBody (mapped (counterBodyOf at) (decode counters-type (now (s .entry)) at)) ⌝ }
@@ -93,11 +97,7 @@ pub fn read_counter_body(s: &[u8], at: usize) -> CounterBodyRead
     if 7 < version {
         return CounterBodyRead::Refused(Refusal::CountersVersion, at);
     }
-    let size = body_size(version);
-    if are_there(s, first, size) {
-        return CounterBodyRead::Found(CounterBody { version, at: first }, first + size);
-    }
-    match pass_each(s, first, version, size) {
+    match pass_body(s, first, version) {
         Passed::Next(next) => CounterBodyRead::Found(CounterBody { version, at: first }, next),
         Passed::Refused(why, p) => CounterBodyRead::Refused(why, p),
     }
@@ -116,11 +116,7 @@ pub fn pass_counters(s: &[u8], at: usize) -> Passed
     if 7 < version {
         return Passed::Refused(Refusal::CountersVersion, at);
     }
-    let size = body_size(version);
-    if are_there(s, first, size) {
-        return Passed::Next(first + size);
-    }
-    pass_each(s, first, version, size)
+    pass_body(s, first, version)
 }
 
 // How many counters were found, of which version.

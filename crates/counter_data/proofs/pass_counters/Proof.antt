@@ -1,11 +1,7 @@
 use borrow.Author.Needs.{needs}
-use native.Mathlib.Omega.{arith}
 use mathlib.Core.Path.{sym, _∙_}
-use borrow.Author.Tests.{leb-true}
-use Prim.Native.Nat.{_+_}
-use lib.ListN.{length}
 use Rattle.fields.proofs.Forms.{passed-view, passed-union-cut}
-use Rattle.counter_data.proofs.Bodies.{body-bad, body-passed, body-there, version-zero, version-over, version-listed}
+use Rattle.counter_data.proofs.Bodies.{body-bad, body-passed, version-zero, version-over, version-listed}
 use Rattle.counter_data.proofs.pass_counters.Statement.{statement}
 use Rattle.counter_data.proofs.pass_counters.Tie as tie
 
@@ -27,23 +23,11 @@ returns-2 c = sym (passed-view _ _ _ _ _ (body-bad _ _ _ _ (sym (c .before .befo
 returns-3 : tie.Need-returns-3
 returns-3 c = sym (passed-view _ _ _ _ _ (body-bad _ _ _ _ (sym (c .before .before .before .before .before .read-word .ensures) ∙ c .before .before .before .version .given .1) (version-over _ (c .if2 .taken))))
 
-body-size-requires : tie.Need-body-size-requires
-body-size-requires c κs = search needs
-
-are-there-requires : tie.Need-are-there-requires
-are-there-requires c κs = search needs
-
-add-t12 : tie.Need-add-t12
-add-t12 c = omega (arith, leb-true (c .before .before .before .before .before .before .version .given .0 .1 .0 + c .before .before .body-size .result) (length (c .before .before .before .before .before .before .before .before .before .before .args .s .now)) (sym (c .before .are-there .ensures) ∙ c .if3 .taken))
+pass-body-requires : tie.Need-pass-body-requires
+pass-body-requires c κs = search needs
 
 returns-4 : tie.Need-returns-4
-returns-4 c = let w = (sym (c .before .before .before .before .before .before .before .before .read-word .ensures) ∙ c .before .before .before .before .before .before .version .given .1) in let l = (version-listed _ (c .before .before .before .before .if1 .left) (c .before .before .before .if2 .left)) in sym (body-passed _ _ _ _ w l ∙ body-there _ _ _ _ w l _ (c .before .before .body-size .ensures) (sym (c .before .are-there .ensures) ∙ c .if3 .taken))
-
-pass-each-requires : tie.Need-pass-each-requires
-pass-each-requires c κs = search needs
-
-returns-5 : tie.Need-returns-5
-returns-5 c = c .pass-each .ensures ∙ sym (body-passed _ _ _ _ (sym (c .before .before .before .before .before .before .before .before .before .read-word .ensures) ∙ c .before .before .before .before .before .before .before .version .given .1) (version-listed _ (c .before .before .before .before .before .if1 .left) (c .before .before .before .before .if2 .left)))
+returns-4 c = c .pass-body .ensures ∙ sym (body-passed _ _ _ _ (sym (c .before .before .before .before .before .before .read-word .ensures) ∙ c .before .before .before .before .version .given .1) (version-listed _ (c .before .before .if1 .left) (c .before .if2 .left)))
 
 pub pass-counters-spec : {M : Type 1} → statement M
 pass-counters-spec =
@@ -55,9 +39,5 @@ pass-counters-spec =
     returns
     returns-2
     returns-3
-    body-size-requires
-    are-there-requires
-    add-t12
-    returns-4
-    pass-each-requires
-    returns-5)
+    pass-body-requires
+    returns-4)

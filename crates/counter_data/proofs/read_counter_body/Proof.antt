@@ -1,11 +1,7 @@
 use borrow.Author.Needs.{needs}
-use native.Mathlib.Omega.{arith}
 use mathlib.Core.Path.{sym, ap, _∙_}
-use borrow.Author.Tests.{leb-true}
-use Prim.Native.Nat.{_+_}
-use lib.ListN.{length}
 use Rattle.counter_data.specs.CounterBodies.{asCounterBody}
-use Rattle.counter_data.proofs.Bodies.{body-cut, body-bad, body-there, body-found, body-refused, version-zero, version-over, version-listed}
+use Rattle.counter_data.proofs.Bodies.{body-cut, body-bad, body-found, body-refused, version-zero, version-over, version-listed}
 use Rattle.counter_data.proofs.read_counter_body.Statement.{statement}
 use Rattle.counter_data.proofs.read_counter_body.Tie as tie
 
@@ -27,20 +23,8 @@ returns-2 c = sym (ap asCounterBody (body-bad _ _ _ _ (sym (c .before .before .b
 returns-3 : tie.Need-returns-3
 returns-3 c = sym (ap asCounterBody (body-bad _ _ _ _ (sym (c .before .before .before .before .before .read-word .ensures) ∙ c .before .before .before .version .given .1) (version-over _ (c .if2 .taken))))
 
-body-size-requires : tie.Need-body-size-requires
-body-size-requires c κs = search needs
-
-are-there-requires : tie.Need-are-there-requires
-are-there-requires c κs = search needs
-
-add-t16 : tie.Need-add-t16
-add-t16 c = omega (arith, leb-true (c .before .before .before .before .before .before .version .given .0 .1 .0 + c .before .before .body-size .result) (length (c .before .before .before .before .before .before .before .before .before .before .args .s .now)) (sym (c .before .are-there .ensures) ∙ c .if3 .taken))
-
-returns-4 : tie.Need-returns-4
-returns-4 c = let w = (sym (c .before .before .before .before .before .before .before .before .read-word .ensures) ∙ c .before .before .before .before .before .before .version .given .1) in let l = (version-listed _ (c .before .before .before .before .if1 .left) (c .before .before .before .if2 .left)) in sym (ap asCounterBody (body-found _ _ _ _ w l _ (body-there _ _ _ _ w l _ (c .before .before .body-size .ensures) (sym (c .before .are-there .ensures) ∙ c .if3 .taken))))
-
-pass-each-requires : tie.Need-pass-each-requires
-pass-each-requires c κs = search needs
+pass-body-requires : tie.Need-pass-body-requires
+pass-body-requires c κs = search needs
 
 enum-known-next : tie.Need-enum-known-next
 enum-known-next c = search needs
@@ -48,11 +32,11 @@ enum-known-next c = search needs
 enum-known-why : tie.Need-enum-known-why
 enum-known-why c = search needs
 
-returns-5 : tie.Need-returns-5
-returns-5 c = sym (ap asCounterBody (body-found _ _ _ _ (sym (c .before .before .before .before .before .before .before .before .before .before .before .before .read-word .ensures) ∙ c .before .before .before .before .before .before .before .before .before .before .version .given .1) (version-listed _ (c .before .before .before .before .before .before .before .before .if1 .left) (c .before .before .before .before .before .before .before .if2 .left)) _ (sym (c .before .before .before .pass-each .ensures) ∙ c .before .next .given .1)))
+returns-4 : tie.Need-returns-4
+returns-4 c = sym (ap asCounterBody (body-found _ _ _ _ (sym (c .before .before .before .before .before .before .before .before .before .read-word .ensures) ∙ c .before .before .before .before .before .before .before .version .given .1) (version-listed _ (c .before .before .before .before .before .if1 .left) (c .before .before .before .before .if2 .left)) _ (sym (c .before .before .before .pass-body .ensures) ∙ c .before .next .given .1)))
 
-returns-6 : tie.Need-returns-6
-returns-6 c = sym (ap asCounterBody (body-refused _ _ _ _ (sym (c .before .before .before .before .before .before .before .before .before .before .before .before .read-word .ensures) ∙ c .before .before .before .before .before .before .before .before .before .before .version .given .1) (version-listed _ (c .before .before .before .before .before .before .before .before .if1 .left) (c .before .before .before .before .before .before .before .if2 .left)) _ _ (sym (c .before .before .before .pass-each .ensures) ∙ c .before .why .given .1)))
+returns-5 : tie.Need-returns-5
+returns-5 c = sym (ap asCounterBody (body-refused _ _ _ _ (sym (c .before .before .before .before .before .before .before .before .before .read-word .ensures) ∙ c .before .before .before .before .before .before .before .version .given .1) (version-listed _ (c .before .before .before .before .before .if1 .left) (c .before .before .before .before .if2 .left)) _ _ (sym (c .before .before .before .pass-body .ensures) ∙ c .before .why .given .1)))
 
 pub read-counter-body-spec : {M : Type 1} → statement M
 read-counter-body-spec =
@@ -64,12 +48,8 @@ read-counter-body-spec =
     returns
     returns-2
     returns-3
-    body-size-requires
-    are-there-requires
-    add-t16
-    returns-4
-    pass-each-requires
+    pass-body-requires
     enum-known-next
     enum-known-why
-    returns-5
-    returns-6)
+    returns-4
+    returns-5)
