@@ -1,0 +1,7 @@
+pub mod Sources
+pub mod Updates
+pub mod Tables
+pub mod Sameness
+pub mod Theorems
+pub mod Cases
+pub mod Answers

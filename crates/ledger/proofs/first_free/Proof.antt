@@ -1,0 +1,64 @@
+use Prim.Native.Nat.{_+_, _-_, _≤_}
+use native.Mathlib.Omega.{arith}
+use borrow.Author.Needs.{needs}
+use mathlib.Core.Path.{_≡_, sym, _∙_}
+use lib.ListN.{length, drop, getD}
+use Rattle.ledger.proofs.Tables.{free, not-free, first-here, first-step, first-end}
+use Rattle.ledger.specs.Ledger.{isFree, firstRow, freeRow}
+use Rattle.ledger.proofs.first_free.Statement.{statement}
+use Rattle.ledger.proofs.first_free.Tie as tie
+use Rattle.ledger.proofs.first_free.Reads as reads
+use Rattle.ledger.proofs.first_free.Lts as lts
+
+abbrev Inv-loop : tie.InvT-loop
+Inv-loop rows i₀ i = (i ≤ 64) × (i + firstRow isFree (drop i rows) ≡ firstRow isFree rows)
+
+abbrev μ-loop : tie.MeasureT-loop
+μ-loop rows i₀ i = 64 - i
+
+-- src/lib.rt:213:5
+loop-holds : tie.Need-loop-holds Inv-loop μ-loop
+loop-holds c = (search needs, omega arith)
+
+-- src/lib.rt:214:19
+mul-row : tie.Need-mul-row Inv-loop μ-loop
+mul-row c = search needs
+
+-- src/lib.rt:214:19
+array-copy-out-row : tie.Need-array-copy-out-row Inv-loop μ-loop
+array-copy-out-row c = search needs
+
+-- src/lib.rt:216:13
+add-i : tie.Need-add-i Inv-loop μ-loop
+add-i c = search needs
+
+-- src/lib.rt:213:5
+loop-less : tie.Need-loop-less Inv-loop μ-loop
+loop-less c = search needs
+
+-- src/lib.rt:213:5
+loop-again : tie.Need-loop-again Inv-loop μ-loop
+loop-again c = let rows = c .before .before .before .before .args .t1 in let long : length rows ≡ 64 = search needs in (search needs, sym (first-step isFree rows (c .before .before .before .loop .i) (omega arith) (not-free (getD rows (c .before .before .before .loop .i) freeRow) (c .if1 .taken))) ∙ c .before .before .before .loop .inv .1)
+
+-- src/lib.rt:218:13
+returns : tie.Need-returns Inv-loop μ-loop
+returns c = let rows = c .before .before .before .before .args .t1 in let long : length rows ≡ 64 = search needs in sym (first-here isFree rows (c .before .before .before .loop .i) (omega arith) (free (getD rows (c .before .before .before .loop .i) freeRow) (c .if1 .left))) ∙ c .before .before .before .loop .inv .1
+
+-- src/lib.rt:209:1
+returns-2 : tie.Need-returns-2 Inv-loop μ-loop
+returns-2 c = let rows = c .before .before .args .t1 in let long : length rows ≡ 64 = search needs in sym (first-end isFree rows (c .before .loop .i) (omega arith)) ∙ c .before .loop .inv .1
+
+pub first-free-spec : {M : Type 1} → statement M
+first-free-spec =
+    tie.close
+    (tie.spec
+    Inv-loop
+    μ-loop
+    loop-holds
+    mul-row
+    array-copy-out-row
+    add-i
+    loop-less
+    loop-again
+    returns
+    returns-2)

@@ -1,0 +1,23 @@
+use Rattle.ledger.proofs.Sources.{other-id, address-tells}
+use mathlib.Core.Path.{_∙_}
+use borrow.Author.Needs.{needs}
+use Rattle.ledger.proofs.same_source.Statement.{statement}
+use Rattle.ledger.proofs.same_source.Tie as tie
+use Rattle.ledger.proofs.same_source.Reads as reads
+use Rattle.ledger.proofs.same_source.Lts as lts
+use Rattle.ledger.proofs.same_address.Reads as same-address-reads
+
+-- src/lib.rt:107:9
+returns : tie.Need-returns
+returns c = other-id (c .before .before .before .before .before .before .args .row) (c .before .before .before .before .before .before .args .x) (c .if1 .taken)
+
+-- src/lib.rt:109:5
+same-address-requires : tie.Need-same-address-requires
+same-address-requires c κs = search needs
+
+-- src/lib.rt:100:1
+returns-2 : tie.Need-returns-2
+returns-2 c = c .same-address .ensures ∙ address-tells (c .before .before .before .before .before .before .before .args .row) (c .before .before .before .before .before .before .before .args .x) (c .before .if1 .left)
+
+pub same-source-spec : {M : Type 1} → statement M
+same-source-spec = tie.close (tie.spec returns same-address-requires returns-2)

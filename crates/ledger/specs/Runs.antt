@@ -1,0 +1,53 @@
+-- A run of samples entered one behind the other, and what it adds to the totals of a source (document 01, "Ledger").
+use Prim.Native.Nat.{ℕ, _+_, _-_, _%_, _^_, _<_}
+use mathlib.Core.Path.{_≡_}
+use mathlib.Core.Bool.{Bool, true, false, cond, _&&_}
+use mathlib.Core.List.{List, [], _∷_}
+use lib.ListN.{length, getD}
+use lib.Dec.{ltb}
+use Rattle.ledger.specs.declared.FlowEntry.{FlowEntry}
+use Rattle.ledger.specs.declared.Row.{Row}
+use Rattle.ledger.specs.Ledger.{Source, same, sourceOf, rowSource, difference, isOf, firstRow, freeRow, entered}
+
+-- the table behind a run of samples
+abbrev pub tableAfter : List Row → List FlowEntry → List Row
+tableAfter rows [] = rows
+tableAfter rows (x ∷ xs) = tableAfter (entered rows x .rows) xs
+
+-- a later sample of a source is accepted behind a kept sequence number: its step is not 0 and below 2 ^ 31
+abbrev pub accepts : Source → ℕ → FlowEntry → Bool
+accepts s kept x =
+    same s (sourceOf x)
+    && (ltb 0 (difference (x .words .«sequence_number») kept) && ltb (difference (x .words .«sequence_number») kept) (2 ^ 31))
+
+-- the accepted later samples of a source; those of other sources and the refused ones change nothing
+abbrev pub accepted : Source → ℕ → List FlowEntry → List FlowEntry
+accepted s kept [] = []
+accepted s kept (x ∷ xs) = cond (accepts s kept x) (x ∷ accepted s (x .words .«sequence_number») xs) (accepted s kept xs)
+
+-- the sum of step - 1 over samples, behind a kept sequence number
+abbrev pub lostSum : ℕ → List FlowEntry → ℕ
+lostSum kept [] = 0
+lostSum kept (x ∷ xs) = (difference (x .words .«sequence_number») kept - 1) + lostSum (x .words .«sequence_number») xs
+
+-- the sum of the pool differences, behind a kept pool
+abbrev pub poolSum : ℕ → List FlowEntry → ℕ
+poolSum kept [] = 0
+poolSum kept (x ∷ xs) = difference (x .words .«sample_pool») kept + poolSum (x .words .«sample_pool») xs
+
+-- row i is the lowest of a source
+pub record Lowest (s : Source) (rows : List Row) (i : ℕ) : Type 0 where
+  pub first : firstRow (isOf s) rows ≡ i
+  pub inside : i < length rows
+
+-- what a run leaves of a source's lowest row: it is still that, and the totals have grown by the sums
+pub record Grown (s : Source) (rows : List Row) (i : ℕ) (xs : List FlowEntry) : Type 0 where
+  pub lowest : Lowest s (tableAfter rows xs) i
+  pub lost : getD (tableAfter rows xs) i freeRow .«lost_total» % 2 ^ 64
+      ≡ (getD rows i freeRow .«lost_total» + lostSum (getD rows i freeRow .«sequence_number») (accepted s (getD rows i freeRow .«sequence_number») xs)) % 2 ^ 64
+  pub pool : getD (tableAfter rows xs) i freeRow .«pool_total» % 2 ^ 64
+      ≡ (getD rows i freeRow .«pool_total» + poolSum (getD rows i freeRow .«sample_pool») (accepted s (getD rows i freeRow .«sequence_number») xs)) % 2 ^ 64
+
+-- every row belongs to another source than a sample's
+abbrev pub AllOthers : List Row → FlowEntry → Type 0
+AllOthers rows x = (i : ℕ) → i < length rows → (getD rows i freeRow .used ≡ true) × (same (rowSource (getD rows i freeRow)) (sourceOf x) ≡ false)
