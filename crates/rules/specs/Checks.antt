@@ -1,0 +1,188 @@
+-- The check of a rule set (document 01, "Rule sets"): 30, then rules in number order, each from 31 up; the first that breaks one is named.
+use Prim.Native.Nat.{ℕ, zero, suc, _+_, _-_, _%_}
+use mathlib.Core.List.{List, [], _∷_}
+use mathlib.Core.Bool.{Bool, false, not, cond, _&&_, _||_}
+use lib.ListN.{length}
+use lib.Dec.{ltb, leb, eqb}
+use Rattle.rules.specs.declared.Rule.{Rule}
+use Rattle.rules.specs.declared.Declared.{Declared}
+use Rattle.rules.specs.declared.RuleRecord.{RuleRecord}
+use Rattle.rules.specs.declared.Action.{Action}
+use Rattle.rules.specs.declared.Action.the-variants.{Unknown, Ignore, NoMatch, Count, CountPkt, Return, Gosub, Goto, PushRule, PushPkt, PopTo}
+use Rattle.rules.specs.declared.CheckRefusal.{CheckRefusal}
+use Rattle.rules.specs.declared.CheckRefusal.the-variants.{Length, Mark, Attribute, Opcode, Limits, FirstRule, ReturnInMain, Target, Queue, Successor}
+use Rattle.rules.specs.declared.RuleCheck.{RuleCheck}
+use Rattle.rules.specs.declared.RuleCheck.the-variants.{Fine, Breaks}
+use Rattle.rules.specs.declared.CheckAnswer.{CheckAnswer}
+use Rattle.rules.specs.declared.CheckAnswer.the-variants.{Accepted, Refused}
+use Rattle.rules.specs.Opcodes.{actionOf, isReturn, isGosub, gotoFlag}
+use Rattle.rules.specs.Records.{count, recordOf, ruleOf, declaredOf}
+
+-- the number of each refusal
+abbrev pub refusalNumber : CheckRefusal → ℕ
+refusalNumber Length = 30
+refusalNumber Mark = 31
+refusalNumber Attribute = 32
+refusalNumber Opcode = 33
+refusalNumber Limits = 34
+refusalNumber FirstRule = 35
+refusalNumber ReturnInMain = 36
+refusalNumber Target = 37
+refusalNumber Queue = 38
+refusalNumber Successor = 39
+
+-- ---- one test behind another
+
+-- a refusal where a test says so, else what the next tests find
+abbrev pub orBreaks : Bool → CheckRefusal → RuleCheck → RuleCheck
+orBreaks b why next = cond b (Breaks why) next
+
+abbrev pub orElse : RuleCheck → RuleCheck → RuleCheck
+orElse Fine next = next
+orElse (Breaks why) next = Breaks why
+
+-- some number from 1 to n passes a test
+abbrev pub some : (ℕ → Bool) → ℕ → Bool
+some f zero = false
+some f (suc k) = some f k || f (suc k)
+
+-- ---- 31 to 33, by a record alone
+
+abbrev pub member : ℕ → List ℕ → Bool
+member a [] = false
+member a (x ∷ xs) = eqb a x || member a xs
+
+-- Null; SourceInterface, SourcePeerType, SourcePeerAddress, SourceTransType, SourceTransAddress and the same of Dest, by the numbers of RFC 2722, Appendix C
+abbrev pub attributes : List ℕ
+attributes = 0 ∷ 4 ∷ 8 ∷ 9 ∷ 11 ∷ 12 ∷ 14 ∷ 18 ∷ 19 ∷ 21 ∷ 22 ∷ []
+
+unfoldable pub known : ℕ → Bool
+known a = member a attributes
+
+-- an opcode that is not 1 to 17, or 8 or 9
+abbrev pub badOpcode : ℕ → Bool
+badOpcode op = eqb op 0 || ltb 17 op || eqb op 8 || eqb op 9
+
+unfoldable pub formOf : ℕ → ℕ → ℕ → RuleCheck
+formOf mark attribute opcode =
+    orBreaks (not (eqb mark 21109)) Mark (orBreaks (not (known attribute)) Attribute (orBreaks (badOpcode opcode) Opcode Fine))
+
+-- ---- 34 to 37, by the rule alone
+
+-- a rule declares otherwise than this
+abbrev pub differs : Declared → ℕ → ℕ → ℕ → Bool
+differs w home depth held = not (eqb (w .home) home && eqb (w .depth) depth && eqb (w .held) held)
+
+-- with a goto flag: the parameter is not above the rule's own number, or no such rule; of a Return: parameter 0
+abbrev pub badTarget : Action → ℕ → ℕ → ℕ → Bool
+badTarget a n i p = cond (gotoFlag a) (not (ltb i p && leb p n)) (isReturn a && eqb p 0)
+
+unfoldable pub aloneOf : ℕ → ℕ → Rule → Declared → RuleCheck
+aloneOf n i r w =
+    orBreaks (ltb 4 (w .depth) || ltb 16 (w .held)) Limits
+    (orBreaks (eqb i 1 && differs w 0 0 0) FirstRule
+    (orBreaks (isReturn (actionOf (r .opcode)) && eqb (w .home) 0) ReturnInMain
+    (orBreaks (badTarget (actionOf (r .opcode)) n i (r .parameter)) Target Fine)))
+
+-- ---- 38, and how many items are queued at a goto target
+
+abbrev pub badQueue : Action → ℕ → Bool
+badQueue Unknown held = false
+badQueue Ignore held = false
+badQueue NoMatch held = false
+badQueue Count held = eqb held 16
+badQueue CountPkt held = eqb held 16
+badQueue Return held = false
+badQueue (Gosub t) held = false
+badQueue (Goto t) held = false
+badQueue (PushRule t) held = eqb held 16
+badQueue (PushPkt t) held = eqb held 16
+badQueue (PopTo t) held = eqb held 0
+
+-- one more after a push, one less after PopTo
+abbrev pub heldAfter : Action → ℕ → ℕ
+heldAfter Unknown held = held
+heldAfter Ignore held = held
+heldAfter NoMatch held = held
+heldAfter Count held = held
+heldAfter CountPkt held = held
+heldAfter Return held = held
+heldAfter (Gosub t) held = held
+heldAfter (Goto t) held = held
+heldAfter (PushRule t) held = held + 1
+heldAfter (PushPkt t) held = held + 1
+heldAfter (PopTo t) held = held - 1
+
+-- ---- 37 and 39, by other rules as they stand
+
+module _ (n : ℕ) (rule : ℕ → Rule) (declared : ℕ → Declared) where
+  abbrev pub actionAt : ℕ → Action
+  actionAt i = actionOf (rule i .opcode)
+
+  -- g is a Gosub aimed at a home
+  abbrev pub aims : ℕ → ℕ → Bool
+  aims home g = isGosub (actionAt g) && eqb (rule g .parameter) home
+
+  -- g is a Gosub aimed at the home of Return i, to which it would come back at no rule
+  abbrev pub leaves : ℕ → ℕ → Bool
+  leaves i g = aims (declared i .home) g && not (leb (g + rule i .parameter) n)
+
+  -- g is such a Gosub, and where Return i comes back declares otherwise than the Gosub's home and depth and the Return's held
+  abbrev pub landsWrong : ℕ → ℕ → Bool
+  landsWrong i g = aims (declared i .home) g && differs (declared (g + rule i .parameter)) (declared g .home) (declared g .depth) (declared i .held)
+
+  -- 37 of a Return, over all Gosubs
+  unfoldable pub escapes : ℕ → Bool
+  escapes i = isReturn (actionAt i) && some (leaves i) n
+
+  -- the next rule, if there is one and mask and value are not both 0, has the same three
+  abbrev pub nextDiffers : ℕ → Bool
+  nextDiffers i =
+      ltb i n && not (eqb (rule i .mask) 0 && eqb (rule i .value) 0)
+      && differs (declared (i + 1)) (declared i .home) (declared i .depth) (declared i .held)
+
+  -- the target of a Gosub has itself as home and depth 1 more; another goto target has home and depth, and the items after the action
+  abbrev pub targetDiffers : ℕ → Bool
+  targetDiffers i =
+      gotoFlag (actionAt i)
+      && cond (isGosub (actionAt i))
+      (differs (declared (rule i .parameter)) (rule i .parameter) (declared i .depth + 1) (declared i .held))
+      (differs (declared (rule i .parameter)) (declared i .home) (declared i .depth) (heldAfter (actionAt i) (declared i .held)))
+
+  -- where a Return comes back, over all Gosubs
+  abbrev pub returnDiffers : ℕ → Bool
+  returnDiffers i = isReturn (actionAt i) && some (landsWrong i) n
+
+  unfoldable pub restOf : ℕ → RuleCheck
+  restOf i =
+      orBreaks (badQueue (actionAt i) (declared i .held)) Queue
+      (orBreaks (nextDiffers i || targetDiffers i || returnDiffers i) Successor Fine)
+
+-- ---- the rule set
+
+-- what rule i breaks
+unfoldable pub ruleCheck : List ℕ → ℕ → RuleCheck
+ruleCheck s i =
+    orElse (formOf (recordOf s i .mark) (ruleOf s i .attribute) (ruleOf s i .opcode))
+    (orElse (aloneOf (count s) i (ruleOf s i) (declaredOf s i))
+    (orBreaks (escapes (count s) (ruleOf s) (declaredOf s) i) Target (restOf (count s) (ruleOf s) (declaredOf s) i)))
+
+abbrev pub named : RuleCheck → ℕ → CheckAnswer
+named Fine i = Accepted
+named (Breaks why) i = Refused why i
+
+abbrev pub orAnswer : CheckAnswer → CheckAnswer → CheckAnswer
+orAnswer Accepted next = next
+orAnswer (Refused why i) next = Refused why i
+
+-- the first of rules 1 to k that breaks one
+unfoldable pub firstOf : (ℕ → RuleCheck) → ℕ → CheckAnswer
+firstOf f zero = Accepted
+firstOf f (suc k) = orAnswer (firstOf f k) (named (f (suc k)) (suc k))
+
+-- no rule, a part of a record, or over 255 rules
+abbrev pub badLength : ℕ → Bool
+badLength len = eqb len 0 || not (eqb (len % 16) 0) || ltb 4080 len
+
+unfoldable pub check : List ℕ → CheckAnswer
+check s = cond (badLength (length s)) (Refused Length 0) (firstOf (ruleCheck s) (count s))
