@@ -4,3 +4,4 @@ pub mod Bits
 pub mod Machine
 pub mod Checks
 pub mod Demand
+pub mod Cases
