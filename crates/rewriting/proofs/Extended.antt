@@ -14,10 +14,11 @@ use Rattle.sflow.specs.Datagram.{int, word, address, extended-switch, extended-
 use Rattle.sflow.proofs.Slices.{first, second}
 use Rattle.sflow.proofs.Items.{word-rest, each-length}
 use Rattle.fields.specs.Parts.{item, size, entriesAt}
+use Rattle.fields.specs.Strings.{textIn}
 use Rattle.extended_data.specs.ExtendedData.{switchOf, routerOf, segmentOf, gatewayOf, userOf, urlOf, extendedBy, extendedOf}
 use Rattle.form_writer.specs.Values.{countable, wordsValue, areEntries}
 use Rattle.form_writer.proofs.GatewayValues.{gateway-encoded}
-use Rattle.rewriting.specs.Forms.{textIn, wordsIn, segmentAgain, pathAgain, extendedAgain}
+use Rattle.rewriting.specs.Forms.{wordsIn, segmentAgain, pathAgain, extendedAgain}
 use Rattle.rewriting.proofs.Fields.{items-are, address-again, address-allowed, text-again, words-again, words-many}
 use Rattle.rewriting.proofs.Entries.{is-true, countable-list, each-again, are-entries, entries-all}
 

@@ -16,9 +16,9 @@ use Rattle.sflow.proofs.Slices.{first, second}
 use Rattle.sflow.proofs.Items.{each-length, items-read, word-rest, string-read}
 use Rattle.fields.specs.Parts.{item, entriesAt}
 use Rattle.fields.specs.Addresses.{quadOf, firstOf, addressOf}
-use Rattle.fields.specs.Strings.{textOf}
+use Rattle.fields.specs.Strings.{textOf, textIn}
 use Rattle.form_writer.specs.Values.{wordsValue, quadValue, addressAllowed, addressValue}
-use Rattle.rewriting.specs.Forms.{textIn, wordsIn}
+use Rattle.rewriting.specs.Forms.{wordsIn}
 use Rattle.rewriting.proofs.Entries.{is-true}
 
 -- ---- runs of numbers

@@ -15,9 +15,10 @@ use Rattle.sflow.specs.Datagram.{int, ip-v4, ip-v6, word, sampled-header, sampl
 use Rattle.sflow.proofs.Slices.{second}
 use Rattle.sflow.proofs.Items.{word-rest, each-length}
 use Rattle.fields.specs.Parts.{item}
+use Rattle.fields.specs.Strings.{textIn}
 use Rattle.packet_data.specs.Packets.{headerOf, ipv4Of, ipv6Of, packetBy, packetOf}
 use Rattle.form_writer.specs.Values.{headerAllowed}
-use Rattle.rewriting.specs.Forms.{textIn, packetAgain}
+use Rattle.rewriting.specs.Forms.{packetAgain}
 use Rattle.rewriting.proofs.Fields.{items-are, quad-again, text-again}
 use Rattle.rewriting.proofs.Entries.{is-true}
 

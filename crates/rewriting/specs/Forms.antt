@@ -2,13 +2,13 @@
 use Prim.Native.Nat.{ℕ, zero, suc, _-_}
 use mathlib.Core.Bool.{Bool, cond}
 use mathlib.Core.List.{List, [], _∷_, _++_}
-use lib.ListN.{length, take, drop, replicate}
+use lib.ListN.{length, take, replicate}
 use Rattle.xdr.specs.Items.{numbersAt}
 use Rattle.sflow.specs.Grammar.{encode}
 use Rattle.sflow.specs.Decode.{Decoded, found, refused, mapped, decode}
 use Rattle.sflow.specs.Datagram.{packet-data-type, as-path-type, extended-data-type, counters-type}
-use Rattle.fields.specs.declared.strings.Text.{Text}
 use Rattle.fields.specs.declared.words.Entries.{Entries}
+use Rattle.fields.specs.Strings.{textIn}
 use Rattle.packet_data.specs.declared.PacketData.{PacketData}
 use Rattle.packet_data.specs.declared.PacketData.the-variants.{Header, Ipv4, Ipv6}
 use Rattle.extended_data.specs.declared.Segment.{Segment}
@@ -22,10 +22,6 @@ use Rattle.counter_data.specs.CounterBodies.{counterValuesOf}
 use Rattle.form_writer.specs.Values.{headerAllowed, headerValue, ipv4Value, ipv6Value, addressAllowed, switchValue, routerValue, segmentAllowed, segmentValue, pathAllowed, gatewayOctets, userAllowed, userValue, urlAllowed, urlValue}
 
 -- ---- what stands at the places that the reader gives
-
--- the octets of a string
-abbrev pub textIn : List ℕ → Text → List ℕ
-textIn s t = take (t .length) (drop (t .at) s)
 
 -- the numbers of a list of words
 abbrev pub wordsIn : List ℕ → Entries → List ℕ
