@@ -1,5 +1,5 @@
-//! A second reader and encoder of sFlow version 4 datagrams (RFC 3176), with
-//! a seeded generator of test vectors.
+//! A second reader and encoder of sFlow version 4 datagrams (RFC 3176) and a
+//! second ledger of flow samples, with seeded generators of test vectors.
 
 pub mod bases;
 pub mod cases;
@@ -11,6 +11,11 @@ pub mod edges;
 pub mod encoder;
 pub mod generator;
 pub mod grammar;
+pub mod ledger;
+pub mod ledger_cases;
+pub mod ledger_records;
+pub mod ledger_runs;
+pub mod ledger_vectors;
 pub mod parts;
 pub mod random;
 pub mod reader;

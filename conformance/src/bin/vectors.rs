@@ -1,10 +1,13 @@
 //! Writes the test vectors into the directory given as argument: the file
-//! `stdin` with their octets and the file `stdout` with the answers.
+//! `stdin` with their octets and the file `stdout` with the answers, for the
+//! reader in the directory itself, for the ledger in its directory `ledger`.
 
 use std::io::Write;
 use std::path::Path;
 use std::process::ExitCode;
 
+use conformance::ledger_records::ledger_answers;
+use conformance::ledger_vectors::{ledger_file, ledger_records};
 use conformance::vectors::{answers, framed, vectors, SEED};
 
 fn main() -> ExitCode {
@@ -12,7 +15,7 @@ fn main() -> ExitCode {
         eprintln!("usage: vectors DIRECTORY");
         return ExitCode::FAILURE;
     };
-    match write(Path::new(&directory)) {
+    match write_all(Path::new(&directory)) {
         Ok(()) => ExitCode::SUCCESS,
         Err(error) => {
             eprintln!("vectors: {error}");
@@ -21,19 +24,30 @@ fn main() -> ExitCode {
     }
 }
 
-/// Writes both files and says how many vectors and octets they have.
-fn write(directory: &Path) -> std::io::Result<()> {
+/// Writes the files of the reader and of the ledger.
+fn write_all(directory: &Path) -> std::io::Result<()> {
     let set = vectors(SEED);
-    let octets = framed(&set);
-    let text = answers(&set);
+    let (octets, text) = (framed(&set), answers(&set));
+    write(directory, &octets, &text)?;
+    say("vectors", set.len(), octets.len(), text.len())?;
+    let records = ledger_records(SEED);
+    let octets = ledger_file(&records);
+    let text = ledger_answers(&octets);
+    write(&directory.join("ledger"), &octets, &text)?;
+    say("ledger operations", records.len(), octets.len(), text.len())
+}
+
+/// Writes both files of a set.
+fn write(directory: &Path, octets: &[u8], text: &str) -> std::io::Result<()> {
     std::fs::create_dir_all(directory)?;
-    std::fs::write(directory.join("stdin"), &octets)?;
-    std::fs::write(directory.join("stdout"), &text)?;
+    std::fs::write(directory.join("stdin"), octets)?;
+    std::fs::write(directory.join("stdout"), text)
+}
+
+/// Says how many vectors and octets a set has.
+fn say(what: &str, count: usize, octets: usize, text: usize) -> std::io::Result<()> {
     writeln!(
         std::io::stdout(),
-        "vectors {} stdin {} stdout {}",
-        set.len(),
-        octets.len(),
-        text.len()
+        "{what} {count} stdin {octets} stdout {text}"
     )
 }

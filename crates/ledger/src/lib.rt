@@ -194,7 +194,7 @@ pub fn update_row(row: &mut Row, x: FlowEntry) -> EntryAnswer
 fn own_row(rows: [Row; 64], x: FlowEntry) -> usize
     ensures { λ r. ⌜ r ≡ firstRow (isOf (sourceOf x)) rows ⌝ }
 {
-    let mut i = 0;
+    let mut i = 0usize;
     while i < 64 {
         let row = rows[i];
         if is_of(row, x) {

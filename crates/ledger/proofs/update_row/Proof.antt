@@ -1,5 +1,5 @@
--- `ledger::enter_row` meets its contract: a walk of its MIR, by hand. The borrow is opened, the row is copied out, `enter` is called on the copy, its row is stored over the old one, and the borrow is closed at that row.
--- All that the proof knows of `enter` is that it meets its contract.
+-- `ledger::update_row` meets its contract: a walk of its MIR, by hand. The borrow is opened, the row is copied out, `update` is called on the copy, its row is stored over the old one, and the borrow is closed at that row.
+-- All that the proof knows of `update` is that it meets its contract.
 -- Assumes nothing.
 use mathlib.Core.Path.{_≡_, refl, ap}
 use Prim.Native.Nat.{ℕ}
