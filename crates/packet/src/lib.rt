@@ -6,12 +6,12 @@ use packet_data::SampledIpv4;
 use packet_data::SampledIpv6;
 use reader::sample::FlowSample;
 ghost use mathlib.Core.Path.{_≡_};
-ghost use Prim.Native.Nat.{_*_, _+_, _%_, _/_, _≤_};
-ghost use mathlib.Core.Bool.{_||_, _&&_};
-ghost use lib.ListN.{length, getD, drop};
-ghost use lib.Dec.{eqb, leb};
+ghost use Prim.Native.Nat.{_*_, _+_, _%_, _≤_};
+ghost use mathlib.Core.Bool.{true, _||_};
+ghost use lib.ListN.{length};
+ghost use lib.Dec.{eqb};
 ghost use Rattle.fields.specs.Strings.{textIn};
-ghost use Rattle.packet.specs.Attributes.{headerSize, isIpv4, noPorts, portsOf, noView, ipv4View, holdsIpv4, headerView, packetView, attributesOf, attribute};
+ghost use Rattle.packet.specs.Attributes.{headerSize, isIpv4, portsOf, noView, ipv4View, holdsIpv4, headerView, packetView, attributesOf, attribute};
 
 pub struct Ports {
     pub source: u32,
@@ -114,21 +114,29 @@ fn is_ipv4(x: &[u8]) -> bool
     size <= x.len()
 }
 
+// The fields of an IPv4 header.
+fn ipv4_fields(x: &[u8]) -> PacketView
+    requires { ⌜ (20 ≤ length (now x)) × (headerSize (now x) ≤ length (now x)) × (isIpv4 (now x) ≡ true) ⌝ }
+    ensures { λ r. ⌜ r ≡ ipv4View (now (x .entry)) ⌝ }
+{
+    let protocol = wide(x[9]);
+    let size = size_of(x[0]);
+    let ports = ports_behind(x, protocol, size);
+    PacketView {
+        peer_type: 1,
+        source_address: word_of(x[12], x[13], x[14], x[15]),
+        dest_address: word_of(x[16], x[17], x[18], x[19]),
+        protocol,
+        ports,
+    }
+}
+
 // IPv4 in octets that begin with its header.
 fn ipv4_view(x: &[u8]) -> PacketView
     ensures { λ r. ⌜ r ≡ ipv4View (now (x .entry)) ⌝ }
 {
     if is_ipv4(x) {
-        let protocol = wide(x[9]);
-        let size = size_of(x[0]);
-        let ports = ports_behind(x, protocol, size);
-        return PacketView {
-            peer_type: 1,
-            source_address: word_of(x[12], x[13], x[14], x[15]),
-            dest_address: word_of(x[16], x[17], x[18], x[19]),
-            protocol,
-            ports,
-        };
+        return ipv4_fields(x);
     }
     no_view()
 }

@@ -16,7 +16,7 @@ use Rattle.rules.specs.declared.CheckAnswer.{CheckAnswer}
 use Rattle.rules.specs.declared.CheckAnswer.the-variants.{Accepted, Refused}
 use Rattle.rules.specs.Opcodes.{actions, actionOf}
 use Rattle.rules.specs.Records.{count, recordOf, ruleOf, declaredOf}
-use Rattle.rules.specs.Checks.{formOf, known, badOpcode, aloneOf, escapes, restOf, ruleCheck, named, orAnswer, firstOf, badLength, check}
+use Rattle.rules.specs.Checks.{formOf, known, badOpcode, aloneOf, escapes, ruleCheck, named, orAnswer, firstOf, badLength, check}
 use Rattle.rules.proofs.Tests.{true-false, or-false, and-true, fine-either, fine-both}
 use Rattle.rules.proofs.Invariant.{Sound, sound}
 

@@ -4,7 +4,6 @@ use native.Mathlib.Omega.{arith}
 use mathlib.Core.Path.{_≡_, refl, sym, _∙_}
 use mathlib.Core.List.{List}
 use mathlib.Core.Bool.{Bool, true, false}
-use lib.ListN.{length}
 use lib.Dec.{leb}
 use borrow.Author.Tests.{leb-true, leb-false}
 use Rattle.rules.specs.declared.Rule.{Rule}
@@ -15,7 +14,7 @@ use Rattle.rules.specs.Opcodes.{actionOf}
 use Rattle.rules.specs.Records.{count, ruleOf, declaredOf}
 use Rattle.rules.specs.Machine.{Outcome, running, ended, stuck, advance, after}
 use Rattle.rules.specs.Checks.{check}
-use Rattle.rules.specs.Demand.{bound, WithinLimits, EndsAt, Demand3}
+use Rattle.rules.specs.Demand.{WithinLimits, Demand3}
 use Rattle.rules.proofs.Invariant.{Sound, Reached, reached, ends}
 use Rattle.rules.proofs.Accepted.{accepted-set, rule-sound}
 

@@ -6,7 +6,6 @@ use lib.ListN.{length}
 use lib.Dec.{ltb, leb, eqb}
 use Rattle.rules.specs.declared.Rule.{Rule}
 use Rattle.rules.specs.declared.Declared.{Declared}
-use Rattle.rules.specs.declared.RuleRecord.{RuleRecord}
 use Rattle.rules.specs.declared.Action.{Action}
 use Rattle.rules.specs.declared.Action.the-variants.{Unknown, Ignore, NoMatch, Count, CountPkt, Return, Gosub, Goto, PushRule, PushPkt, PopTo}
 use Rattle.rules.specs.declared.CheckRefusal.{CheckRefusal}

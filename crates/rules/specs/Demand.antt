@@ -6,7 +6,7 @@ use mathlib.Core.List.{List}
 use lib.ListN.{length}
 use Rattle.rules.specs.declared.Rule.{Rule}
 use Rattle.rules.specs.declared.Item.{Item}
-use Rattle.rules.specs.Machine.{State, Outcome, running, ended, stuck, after}
+use Rattle.rules.specs.Machine.{Outcome, running, ended, stuck, after}
 
 abbrev pub bound : ℕ → ℕ
 bound n = n + n ^ 2 + n ^ 3 + n ^ 4 + n ^ 5

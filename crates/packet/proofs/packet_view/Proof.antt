@@ -1,0 +1,49 @@
+use Rattle.packet.proofs.Views.{header-data, ipv4-data, ipv6-data}
+use denote.Ref.{now}
+use mathlib.Core.Path.{_∙_}
+use borrow.Author.Needs.{needs}
+use Rattle.packet.proofs.packet_view.Statement.{statement}
+use Rattle.packet.proofs.packet_view.Tie as tie
+use Rattle.packet.proofs.packet_view.Reads as reads
+use Rattle.packet.proofs.packet_view.Lts as lts
+use Rattle.packet.proofs.header_in.Reads as header-in-reads
+
+-- src/lib.rt:185:28
+enum-known-packet : tie.Need-enum-known-packet
+enum-known-packet c = search needs
+
+-- src/lib.rt:187:13
+header-in-requires : tie.Need-header-in-requires
+header-in-requires c κs = search needs
+
+-- src/lib.rt:189:26
+enum-known-packet-2 : tie.Need-enum-known-packet-2
+enum-known-packet-2 c = search needs
+
+-- src/lib.rt:199:26
+enum-known-packet-3 : tie.Need-enum-known-packet-3
+enum-known-packet-3 c = search needs
+
+-- src/lib.rt:181:1
+returns : tie.Need-returns
+returns c = c .header-in .ensures ∙ header-data (now (c .before .before .before .before .before .before .args .s)) (c .before .before .before .before .before .before .args .packet) _ (c .before .before .before .packet .given .1)
+
+-- src/lib.rt:181:1
+returns-2 : tie.Need-returns-2
+returns-2 c = ipv4-data (now (c .before .before .before .before .args .s)) (c .before .before .before .before .args .packet) _ (c .before .packet2 .given .1)
+
+-- src/lib.rt:181:1
+returns-3 : tie.Need-returns-3
+returns-3 c = ipv6-data (now (c .before .before .before .before .args .s)) (c .before .before .before .before .args .packet) _ (c .before .packet3 .given .1)
+
+pub packet-view-spec : {M : Type 1} → statement M
+packet-view-spec =
+    tie.close
+    (tie.spec
+    enum-known-packet
+    header-in-requires
+    enum-known-packet-2
+    enum-known-packet-3
+    returns
+    returns-2
+    returns-3)
