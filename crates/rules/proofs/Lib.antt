@@ -7,3 +7,4 @@ pub mod Opcodes
 pub mod Accepted
 pub mod Demand
 pub mod Cases
+pub mod Steps
