@@ -1,12 +1,12 @@
 -- Sources are the same exactly where what identifies them is equal. Assumes nothing.
 use Prim.Native.Nat.{ℕ}
-use native.Mathlib.Omega.{arith}
 use mathlib.Core.Path.{_≡_, refl, sym, ap, _∙_}
 use mathlib.Core.Bool.{Bool, true, false, cond, _&&_, _||_}
 use mathlib.Core.List.{List, [], _∷_}
 use lib.ListN.{getD}
 use lib.Dec.{eqb}
 use borrow.Author.Tests.{eq-eqb, eqb-true}
+use Rattle.xdr.proofs.Tests.{and-parts}
 use Rattle.ledger.specs.Ledger.{Source, same}
 
 -- two tests that pass together are the same
@@ -14,10 +14,6 @@ bool-iff : (a b : Bool) → (a ≡ true → b ≡ true) → (b ≡ true → a �
 bool-iff true b f g = sym (f refl)
 bool-iff false true f g = g refl
 bool-iff false false f g = refl
-
-pub and-parts : (a b : Bool) → (a && b) ≡ true → (a ≡ true) × (b ≡ true)
-and-parts true b e = (refl, e)
-and-parts false b e = let z : _≡_ {A = ℕ} 0 1 = cc in absurd (omega arith)
 
 -- what identifies a source: id, type, and the words of the address that count
 abbrev key : Source → List ℕ

@@ -10,6 +10,7 @@ use lib.ListN.{length, getD, set, length-set}
 use lib.Seq.{getD-set-same, getD-set-other}
 use lib.Dec.{leb, ltb, eqb}
 use borrow.Author.Tests.{lt-ltb, le-ltb, ltb-true, eqb-true, eqb-false, leb-true, leb-false}
+use Rattle.xdr.proofs.Tests.{and-parts}
 use Rattle.ledger.specs.declared.FlowEntry.{FlowEntry}
 use Rattle.ledger.specs.declared.Row.{Row}
 use Rattle.ledger.specs.declared.EntryAnswer.the-variants.{Entered, Repeated, Backward}
@@ -17,7 +18,7 @@ use Rattle.ledger.specs.declared.RowEntered.{RowEntered}
 use Rattle.ledger.specs.Ledger.{Source, same, sourceOf, rowSource, sameSource, difference, step, answered, advanced, later, updated, isOf, isFree, firstRow, freeRow, entered}
 use Rattle.ledger.specs.Runs.{accepts, accepted, lostSum, poolSum, Lowest, Grown}
 use Rattle.ledger.proofs.Updates.{opens, of-source}
-use Rattle.ledger.proofs.Sameness.{and-parts, same-either, same-back}
+use Rattle.ledger.proofs.Sameness.{same-either, same-back}
 
 -- ---- the lowest row that passes a test
 

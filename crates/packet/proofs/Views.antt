@@ -1,6 +1,5 @@
 -- What the views of a packet are, by what the tests of its octets answer. Assumes nothing.
 use Prim.Native.Nat.{ℕ, zero, suc, _+_, _*_, _-_, _/_, _≤_, _<_}
-use native.Mathlib.Nat.{add-zero}
 use native.Mathlib.Omega.{arith}
 use mathlib.Core.Path.{_≡_, refl, sym}
 use mathlib.Core.List.{List, []}
@@ -9,8 +8,8 @@ use lib.ListN.{length, getD, take, drop, length-drop, drop-of-length-le}
 use lib.Seq.{take-all}
 use lib.Dec.{leb, eqb}
 use borrow.Author.Tests.{eq-eqb, ne-eqb, le-leb, lt-leb, leb-true}
-use Rattle.xdr.specs.Numbers.{numberAt}
-use Rattle.xdr.proofs.Octets.{word-number}
+use Rattle.xdr.proofs.Octets.{pair-number, word-number}
+use Rattle.xdr.proofs.Tests.{and-parts}
 use Rattle.fields.specs.declared.strings.Text.{Text}
 use Rattle.fields.specs.Strings.{textIn}
 use Rattle.packet_data.specs.declared.PacketData.{PacketData}
@@ -21,14 +20,6 @@ use Rattle.packet_data.specs.declared.SampledIpv6.{SampledIpv6}
 use Rattle.packet.specs.declared.Ports.{Ports}
 use Rattle.packet.specs.declared.Attributes.{Attributes}
 use Rattle.packet.specs.Attributes.{headerSize, isIpv4, noPorts, portsOf, noView, ipv4View, holdsIpv4, headerView, packetView, attribute}
-
-pair-number : (s : List ℕ) (p : ℕ) → numberAt s p 2 ≡ getD s p 0 * 256 + getD s (p + 1) 0
-unfolding numberAt
-pair-number s p = rw (add-zero p) (omega arith)
-
-and-parts : (a b : Bool) → (a && b) ≡ true → (a ≡ true) × (b ≡ true)
-and-parts true b e = (refl, e)
-and-parts false b e = let z : _≡_ {A = ℕ} 0 1 = cc in absurd (omega arith)
 
 -- ---- protocols and ports
 

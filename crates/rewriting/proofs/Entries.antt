@@ -2,11 +2,10 @@
 use Prim.Native.Nat.{ℕ, _+_, _^_, _<_}
 use native.Mathlib.Omega.{arith}
 use mathlib.Core.Path.{_≡_, refl}
-use mathlib.Core.Bool.{Bool, true, false}
+use mathlib.Core.Bool.{true}
 use mathlib.Core.List.{List, [], _∷_, flatMap, append-nil}
 use lib.ListN.{length}
 use lib.Seq.{drop-length}
-use lib.Dec.{T}
 use borrow.Author.Tests.{lt-ltb, eq-eqb}
 use Rattle.sflow.specs.Slices.{Slice}
 use Rattle.sflow.specs.Grammar.{Form, Value, Each, Valid, encode}
@@ -18,10 +17,6 @@ use Rattle.form_writer.proofs.GatewayValues.{AreEntries}
 use Rattle.rewriting.specs.Forms.{eachAgain}
 
 -- ---- tests that hold
-
-pub is-true : (b : Bool) → T b → b ≡ true
-is-true true t = refl
-is-true false t = absurd t
 
 -- a list whose length a word holds
 pub countable-list : (xs : List ℕ) → length xs < 2 ^ 32 → countable xs ≡ true

@@ -8,6 +8,7 @@ use lib.ListN.{length}
 use lib.Dec.{T, eqb}
 use borrow.Author.Tests.{eqb-true}
 use Rattle.xdr.specs.Numbers.{octetsOf}
+use Rattle.xdr.proofs.Tests.{is-true}
 use Rattle.sflow.specs.Slices.{Slice}
 use Rattle.sflow.specs.Grammar.{none, fixed, opaque, list, Value, Valid, oneTo, octetsOfEach, encode}
 use Rattle.sflow.specs.Datagram.{int, word, address, extended-switch, extended-router, as-path-type, extended-gateway, extended-user, extended-url, extended-data-type}
@@ -20,7 +21,7 @@ use Rattle.form_writer.specs.Values.{countable, wordsValue, areEntries}
 use Rattle.form_writer.proofs.GatewayValues.{gateway-encoded}
 use Rattle.rewriting.specs.Forms.{wordsIn, segmentAgain, pathAgain, extendedAgain}
 use Rattle.rewriting.proofs.Fields.{items-are, address-again, address-allowed, text-again, words-again, words-many}
-use Rattle.rewriting.proofs.Entries.{is-true, countable-list, each-again, are-entries, entries-all}
+use Rattle.rewriting.proofs.Entries.{countable-list, each-again, are-entries, entries-all}
 
 switch-again : (s : List ℕ) (v : Value extended-switch) → Valid extended-switch v → extendedAgain s (switchOf v) ≡ octetsOf 4 1 ++ encode extended-switch v
 unfolding encode

@@ -9,6 +9,7 @@ use lib.Dec.{T, eqb}
 use Rattle.xdr.specs.Numbers.{numberAt}
 use Rattle.xdr.specs.Items.{numbersAt}
 use Rattle.xdr.specs.Writes.{paddedOctets}
+use Rattle.xdr.proofs.Tests.{is-true}
 use Rattle.sflow.specs.Slices.{Slice}
 use Rattle.sflow.specs.Grammar.{Limit, opaque, Value, Fits, Each, Valid, encode}
 use Rattle.sflow.specs.Datagram.{ip-v4, ip-v6, word, address}
@@ -19,7 +20,6 @@ use Rattle.fields.specs.Addresses.{quadOf, firstOf, addressOf}
 use Rattle.fields.specs.Strings.{textOf, textIn}
 use Rattle.form_writer.specs.Values.{wordsValue, quadValue, addressAllowed, addressValue}
 use Rattle.rewriting.specs.Forms.{wordsIn}
-use Rattle.rewriting.proofs.Entries.{is-true}
 
 -- ---- runs of numbers
 

@@ -8,6 +8,7 @@ use lib.ListN.{length}
 use lib.Dec.{T, eqb}
 use borrow.Author.Tests.{le-leb, eqb-true}
 use Rattle.xdr.specs.Numbers.{octetsOf}
+use Rattle.xdr.proofs.Tests.{is-true}
 use Rattle.sflow.specs.declared.Refusal.the-variants.{HeaderLength}
 use Rattle.sflow.specs.Slices.{Slice}
 use Rattle.sflow.specs.Grammar.{atMost, fixed, opaque, Value, Valid, oneTo, encode}
@@ -20,7 +21,6 @@ use Rattle.packet_data.specs.Packets.{headerOf, ipv4Of, ipv6Of, packetBy, packe
 use Rattle.form_writer.specs.Values.{headerAllowed}
 use Rattle.rewriting.specs.Forms.{packetAgain}
 use Rattle.rewriting.proofs.Fields.{items-are, quad-again, text-again}
-use Rattle.rewriting.proofs.Entries.{is-true}
 
 -- a header: protocol, frame length, octets
 header-again : (s : List ℕ) (at next : ℕ) (v : Value sampled-header) → Valid sampled-header v → Slice s at next (encode sampled-header v)

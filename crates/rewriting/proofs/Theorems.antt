@@ -10,6 +10,7 @@ use lib.Dec.{leb, eqb}
 use borrow.Author.Tests.{leb-true, leb-false, eqb-true}
 use Rattle.xdr.specs.Numbers.{Octets}
 use Rattle.xdr.specs.Writes.{stored}
+use Rattle.xdr.proofs.Tests.{is-true}
 use Rattle.sflow.specs.Slices.{Slice}
 use Rattle.sflow.specs.Grammar.{Value, Valid, Each, encode}
 use Rattle.sflow.specs.Decode.{found, decode, EndToEnd}
@@ -29,7 +30,6 @@ use Rattle.writer.specs.Datagrams.{limitAllowed, startValue, appended, withSamp
 use Rattle.writer.proofs.Theorems.{holds, encoded-length, encoded-total, flat-append, flat-one, append-fits, append-full, start-short, start-holds}
 use Rattle.rewriting.specs.Rewriting.{appendEach, rewritten, Stopped}
 use Rattle.rewriting.proofs.Fields.{items-are, address-again, address-allowed}
-use Rattle.rewriting.proofs.Entries.{is-true}
 use Rattle.rewriting.proofs.Samples.{sample-again}
 
 -- ---- parts of a list of samples

@@ -7,6 +7,7 @@ use mathlib.Core.Bool.{Bool, true, false, not, cond, _&&_, _||_}
 use lib.ListN.{length, getD, drop}
 use lib.Dec.{ltb, leb, eqb}
 use borrow.Author.Tests.{leb-true, leb-false, ltb-false, eqb-false, eqb-true, not-false}
+use Rattle.xdr.proofs.Tests.{and-parts}
 use Rattle.rules.specs.declared.Action.{Action}
 use Rattle.rules.specs.declared.Action.the-variants.{Unknown, Ignore, NoMatch, Count, CountPkt, Return, Gosub, Goto, PushRule, PushPkt, PopTo}
 use Rattle.rules.specs.declared.RuleCheck.{RuleCheck}
@@ -17,7 +18,7 @@ use Rattle.rules.specs.declared.CheckAnswer.the-variants.{Accepted, Refu
 use Rattle.rules.specs.Opcodes.{actions, actionOf}
 use Rattle.rules.specs.Records.{count, recordOf, ruleOf, declaredOf}
 use Rattle.rules.specs.Checks.{formOf, known, badOpcode, aloneOf, escapes, ruleCheck, named, orAnswer, firstOf, badLength, check}
-use Rattle.rules.proofs.Tests.{true-false, or-false, and-true, fine-either, fine-both}
+use Rattle.rules.proofs.Tests.{true-false, or-false, fine-either, fine-both}
 use Rattle.rules.proofs.Invariant.{Sound, sound}
 
 -- ---- the first rule that breaks one
@@ -62,8 +63,8 @@ allSome (a ∷ l) = isSome a && allSome l
 
 at-all : (l : List Action) → allSome l ≡ true → (i : ℕ) → i < length l → isSome (getD l i Unknown) ≡ true
 at-all [] e i h = absurd (omega arith)
-at-all (a ∷ l) e zero h = and-true _ _ e .0
-at-all (a ∷ l) e (suc i) h = at-all l (and-true (isSome a) _ e .1) i (omega arith)
+at-all (a ∷ l) e zero h = and-parts _ _ e .0
+at-all (a ∷ l) e (suc i) h = at-all l (and-parts (isSome a) _ e .1) i (omega arith)
 
 has-action : (op : ℕ) → eqb op 0 ≡ false → ltb 17 op ≡ false → actionOf op ≡ Unknown → ⊥
 unfolding actionOf

@@ -7,6 +7,7 @@ use mathlib.Core.Bool.{Bool, true, false, not, cond, _&&_, _||_}
 use lib.ListN.{length}
 use lib.Dec.{ltb, leb, eqb}
 use borrow.Author.Tests.{ltb-true, ltb-false, leb-true, eqb-true, eqb-false, not-false, le-leb, eq-eqb}
+use Rattle.xdr.proofs.Tests.{and-parts}
 use Rattle.rules.specs.declared.Rule.{Rule}
 use Rattle.rules.specs.declared.Declared.{Declared}
 use Rattle.rules.specs.declared.Item.{Item}
@@ -18,7 +19,7 @@ use Rattle.rules.specs.Bits.{masked}
 use Rattle.rules.specs.Machine.{State, Outcome, running, ended, stuck, passes, goes, comesBack, drops, act, fails, step, advance, after}
 use Rattle.rules.specs.Checks.{some, differs, badTarget, aloneOf, badQueue, heldAfter, aims, leaves, landsWrong, escapes, nextDiffers, targetDiffers, returnDiffers, restOf}
 use Rattle.rules.specs.Demand.{bound, EndsAt}
-use Rattle.rules.proofs.Tests.{or-false, and-true, and-false, fine-either, some-false, differs-false}
+use Rattle.rules.proofs.Tests.{or-false, and-false, fine-either, some-false, differs-false}
 use Rattle.rules.proofs.Bits.{masked-zero}
 use Rattle.rules.proofs.Measure.{left, left-start, left-on, left-call, left-back, left-pos}
 
@@ -121,7 +122,7 @@ module _ (n : ℕ) (rule : ℕ → Rule) (declared : ℕ → Declared) where
         (record { low = omega arith; high = h; depth = w .1 ∙ v .depth; held = w .2 ∙ e; frames = rw (w .0) (v .frames) }, left-on n i t cs l h, refl)
 
     target : (i : ℕ) → not (ltb i (rule i .parameter) && leb (rule i .parameter) n) ≡ false → (i < rule i .parameter) × (rule i .parameter ≤ n)
-    target i f = let t = and-true _ _ (not-false _ f) in (ltb-true _ _ (t .0), leb-true _ _ (t .1))
+    target i f = let t = and-parts _ _ (not-false _ f) in (ltb-true _ _ (t .0), leb-true _ _ (t .1))
 
     -- one more item fits
     fits : (i : ℕ) (cs : List ℕ) (is : List Item) → Inv i cs is → eqb (declared i .held) 16 ≡ false → suc (length is) ≤ 16
@@ -214,7 +215,7 @@ module _ (n : ℕ) (rule : ℕ → Rule) (declared : ℕ → Declared) where
       where
         both : eqb (rule i .mask) 0 && eqb (rule i .value) 0 ≡ true → ⊥
         both t =
-            let u = and-true _ _ t in
+            let u = and-parts _ _ t in
             let o = or-false (eqb (rule i .attribute) 0) (eqb (masked 32 (at (rule i .attribute)) (rule i .mask)) (rule i .value)) f in
             eqb-false _ _ (o .1)
             (ap (masked 32 (at (rule i .attribute))) (eqb-true _ _ (u .0)) ∙ masked-zero 32 (at (rule i .attribute)) ∙ sym (eqb-true _ _ (u .1)))

@@ -1,6 +1,5 @@
 -- Rule records as their octets are read. Assumes nothing.
 use Prim.Native.Nat.{ℕ, _+_, _*_, _-_, _≤_, _<_}
-use native.Mathlib.Nat.{add-zero}
 use native.Mathlib.Omega.{arith}
 use mathlib.Core.Path.{_≡_, _∙_}
 use mathlib.Core.List.{List, [], _∷_}
@@ -8,17 +7,9 @@ use lib.ListN.{getD}
 use borrow.Author.Tests.{le-leb, lt-leb}
 use Rattle.xdr.specs.Numbers.{numberAt}
 use Rattle.xdr.specs.Items.{numbersAt}
-use Rattle.xdr.proofs.Octets.{word-number}
+use Rattle.xdr.proofs.Octets.{octet-number, pair-number, word-number}
 use Rattle.rules.specs.declared.RuleRecord.{RuleRecord}
 use Rattle.rules.specs.Records.{recordWidths, ruleIn, declaredIn, recordIn, noRecord, count, recordOf}
-
-octet-number : (s : List ℕ) (p : ℕ) → numberAt s p 1 ≡ getD s p 0
-unfolding numberAt
-octet-number s p = rw (add-zero p) (omega arith)
-
-pair-number : (s : List ℕ) (p : ℕ) → numberAt s p 2 ≡ getD s p 0 * 256 + getD s (p + 1) 0
-unfolding numberAt
-pair-number s p = rw (add-zero p) (omega arith)
 
 -- the numbers of a record, each at its offset
 fields-are : (s : List ℕ) (p : ℕ) → numbersAt s p recordWidths

@@ -5,6 +5,7 @@ use mathlib.Core.Path.{_≡_, refl, sym}
 use mathlib.Core.Bool.{Bool, true, false, _&&_, _||_}
 use lib.Dec.{leb}
 use borrow.Author.Tests.{leb-true, leb-false, eqb-true, not-false}
+use Rattle.xdr.proofs.Tests.{and-parts}
 use Rattle.rules.specs.declared.Declared.{Declared}
 use Rattle.rules.specs.declared.CheckRefusal.{CheckRefusal}
 use Rattle.rules.specs.declared.RuleCheck.{RuleCheck}
@@ -17,10 +18,6 @@ true-false e = let z : _≡_ {A = ℕ} 0 1 = cc in absurd (omega arith)
 pub or-false : (a b : Bool) → a || b ≡ false → (a ≡ false) × (b ≡ false)
 or-false true b e = true-false e
 or-false false b e = (refl, e)
-
-pub and-true : (a b : Bool) → a && b ≡ true → (a ≡ true) × (b ≡ true)
-and-true true b e = (refl, e)
-and-true false b e = true-false (sym e)
 
 pub and-false : (a b : Bool) → a && b ≡ false → a ≡ true → b ≡ false
 and-false true b e f = e
@@ -45,6 +42,6 @@ some-false f (suc k) e g l h =
 
 pub differs-false : (w : Declared) (h d q : ℕ) → differs w h d q ≡ false → (w .home ≡ h) × (w .depth ≡ d) × (w .held ≡ q)
 differs-false w h d q e =
-    let t = and-true _ _ (not-false _ e) in
-    let u = and-true _ _ (t .0) in
+    let t = and-parts _ _ (not-false _ e) in
+    let u = and-parts _ _ (t .0) in
     (eqb-true _ _ (u .0), eqb-true _ _ (u .1), eqb-true _ _ (t .1))

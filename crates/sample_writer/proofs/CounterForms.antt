@@ -7,6 +7,7 @@ use mathlib.Core.List.{List, [], _∷_, _++_, flatMap, append-assoc}
 use lib.Dec.{T, leb}
 use borrow.Author.Tests.{leb-true, leb-false}
 use Rattle.xdr.proofs.Reading.{never}
+use Rattle.xdr.proofs.Tests.{is-true}
 use Rattle.sflow.specs.Grammar.{listed, Valid, octetsOfEach, encode}
 use Rattle.sflow.specs.Datagram.{counters-versions, sample-type}
 use Rattle.counter_data.proofs.Bodies.{widthsOf, version-over}
@@ -63,7 +64,3 @@ pub valid-allowed : (a b c version : ℕ) (ns : List ℕ) → Valid sample-type 
 valid-allowed a b c version ns v =
     let k = v .2 .1 in
     rw (is-true (listed counters-versions version) (k .1)) (fits-tested (widthsOf version) ns (k .2))
-  where
-    is-true : (t : Bool) → T t → t ≡ true
-    is-true true h = refl
-    is-true false h = absurd h

@@ -3,20 +3,15 @@ use Prim.Native.Nat.{ℕ, _+_}
 use native.Mathlib.Omega.{arith}
 use mathlib.Core.Path.{_≡_, refl, ap}
 use mathlib.Core.List.{List, [], _∷_, flatMap}
-use mathlib.Core.Bool.{Bool, true, false}
 use lib.ListN.{length}
-use lib.Dec.{T}
 use borrow.Author.Tests.{le-leb}
 use Rattle.xdr.specs.Writes.{paddedOctets}
+use Rattle.xdr.proofs.Tests.{is-true}
 use Rattle.sflow.specs.Slices.{Slice}
 use Rattle.sflow.specs.Grammar.{Limit, none, atMost, Form, fixed, union, opaque, list, _then_, Value, Within, Each, Valid, encode}
 use Rattle.sflow.specs.Decode.{Decoded, found, limited, entries, decode}
 use Rattle.sflow.proofs.Slices.{ends, first, second}
 use Rattle.sflow.proofs.Items.{word-read, word-rest, items-read, string-read}
-
-passes : (b : Bool) → T b → b ≡ true
-passes true t = refl
-passes false t = absurd t
 
 within : {A : Type 0} (limit : Limit) (n at : ℕ) (d : Decoded A) → Within limit n → limited limit n at d ≡ d
 within none n at d h = refl
@@ -36,7 +31,7 @@ complete (fixed ws) vs h s at next p = let r = items-read s ws vs at next h p in
 complete (union why test arms) v h s at next p =
     rw (
       word-read s at (v .0) next (encode (arms (v .0)) (v .1)) (h .0) p,
-      passes (test (v .0)) (h .1),
+      is-true (test (v .0)) (h .1),
       complete (arms (v .0)) (v .1) (h .2) s (at + 4) next (word-rest s at (v .0) next (encode (arms (v .0)) (v .1)) p),
     )
 complete (opaque limit) xs h s at next p =

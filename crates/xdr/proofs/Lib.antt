@@ -3,3 +3,4 @@ pub mod Reading
 pub mod Runs
 pub mod Padding
 pub mod Writing
+pub mod Tests

@@ -15,6 +15,16 @@ number-join s at v zero = rw (add-zero v) (omega arith)
 number-join s at v (suc w) =
     rw (add-suc v w, number-join s at v w, pow-suc, ← mul-assoc, ← add-assoc at v w) (omega arith)
 
+-- The number in one octet.
+pub octet-number : (s : List ℕ) (at : ℕ) → numberAt s at 1 ≡ getD s at 0
+unfolding numberAt
+octet-number s at = rw (add-zero at) (omega arith)
+
+-- The number in two octets, octet by octet.
+pub pair-number : (s : List ℕ) (at : ℕ) → numberAt s at 2 ≡ getD s at 0 * 256 + getD s (at + 1) 0
+unfolding numberAt
+pair-number s at = rw (add-zero at) (omega arith)
+
 -- The number in four octets, octet by octet.
 pub word-number : (s : List ℕ) (at : ℕ)
     → numberAt s at 4 ≡ getD s at 0 * 16777216 + getD s (at + 1) 0 * 65536 + getD s (at + 2) 0 * 256 + getD s (at + 3) 0
