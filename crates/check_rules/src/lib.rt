@@ -45,7 +45,7 @@ fn is_bad_opcode(opcode: u8) -> bool
     }
 }
 
-// Refusals 31 to 33.
+// Refusals 31 to 33; 21109 is the mark 52 75.
 fn check_form(mark: u32, attribute: u8, opcode: u8) -> RuleCheck
     ensures { λ r. ⌜ r ≡ formOf mark attribute opcode ⌝ }
 {
@@ -365,7 +365,7 @@ fn answer_of(found: RuleCheck, i: usize) -> CheckAnswer
     }
 }
 
-// Refusals 31 to 39: the first rule that breaks one.
+// Refusals 31 to 39: the first rule that breaks one. A Return is looked at with every Gosub for 37 before any for 39.
 fn first_refusal(s: &[u8]) -> CheckAnswer
     ensures { λ r. ⌜ r ≡ firstOf (ruleCheck (now (s .entry))) (count (now (s .entry))) ⌝ }
 {
@@ -389,10 +389,10 @@ fn first_refusal(s: &[u8]) -> CheckAnswer
                     break 'rules;
                 }
             }
-            g = 0;
-            while g < n {
-                g += 1;
-                if comes_back_otherwise(s, own, g) {
+            let mut h: usize = 0;
+            while h < n {
+                h += 1;
+                if comes_back_otherwise(s, own, h) {
                     found = RuleCheck::Breaks(CheckRefusal::Successor);
                     break 'rules;
                 }
@@ -406,6 +406,7 @@ fn first_refusal(s: &[u8]) -> CheckAnswer
     answer_of(found, i)
 }
 
+// Whether a rule set is accepted, or else its first refusal and the rule that breaks it.
 pub fn check(s: &[u8]) -> CheckAnswer
     ensures { λ r. ⌜ r ≡ check (now (s .entry)) ⌝ }
 {

@@ -35,10 +35,10 @@ abbrev μ-loop : tie.MeasureT-loop
 μ-loop s n i own g₀ g = n - g
 
 abbrev Inv-loop2 : tie.InvT-loop2
-Inv-loop2 s n i own g₀ g = (g ≤ n) × (some (comesBackOtherwise s own) g ≡ false)
+Inv-loop2 s n i own g h₀ h = (h ≤ n) × (some (comesBackOtherwise s own) h ≡ false)
 
 abbrev μ-loop2 : tie.MeasureT-loop2
-μ-loop2 s n i own g₀ g = n - g
+μ-loop2 s n i own g h₀ h = n - h
 
 abbrev Inv-rules : tie.InvT-rules
 Inv-rules s n i₀ found₀ i found = (i ≤ n) × (found ≡ Fine) × (firstOf (ruleCheck s) i ≡ Accepted)
@@ -107,13 +107,17 @@ loop2-holds : tie.Need-loop2-holds Inv-loop μ-loop Inv-loop2 μ-loop2 Inv-rules
 loop2-holds c = (omega arith, refl)
 
 -- src/lib.rt:375:17
-add-g-2 : tie.Need-add-g-2 Inv-loop μ-loop Inv-loop2 μ-loop2 Inv-rules μ-rules
-add-g-2 c = omega arith
+add-h : tie.Need-add-h Inv-loop μ-loop Inv-loop2 μ-loop2 Inv-rules μ-rules
+add-h c = omega arith
 
 -- src/lib.rt:376:20
 comes-back-otherwise-requires :
     tie.Need-comes-back-otherwise-requires Inv-loop μ-loop Inv-loop2 μ-loop2 Inv-rules μ-rules
-comes-back-otherwise-requires c κs = let s = now (c .before .before .before .before .before .before .before .before .before .before .before .before .before .before .before .args .s) in let l = c .before .before .before .loop in let e : l .g ≡ count s = omega (arith, l .inv .0, c .before .before .loop-test .left) in some-false (comesBackNowhere s (count s) (c .before .before .before .before .before .before .before .before .before .before .before .record-at .result)) (count s) (rw e at (l .inv .1)) (c .before .loop2 .g + 1) (omega arith) (omega arith)
+comes-back-otherwise-requires c κs =
+    let s = now (c .before .before .before .before .before .before .before .before .before .before .before .before .before .before .before .args .s) in
+    let l = c .before .before .before .loop in
+    let e : l .g ≡ count s = omega (arith, l .inv .0, c .before .before .loop-test .left) in
+    some-false (comesBackNowhere s (count s) (c .before .before .before .before .before .before .before .before .before .before .before .record-at .result)) (count s) (rw e at (l .inv .1)) (c .before .loop2 .h + 1) (omega arith) (omega arith)
 
 -- src/lib.rt:374:13
 loop2-less : tie.Need-loop2-less Inv-loop μ-loop Inv-loop2 μ-loop2 Inv-rules μ-rules
@@ -121,7 +125,7 @@ loop2-less c = omega arith
 
 -- src/lib.rt:374:13
 loop2-again : tie.Need-loop2-again Inv-loop μ-loop Inv-loop2 μ-loop2 Inv-rules μ-rules
-loop2-again c = (omega arith, some-more (comesBackOtherwise (now (c .before .before .before .before .before .before .before .before .before .before .before .before .before .before .before .before .before .args .s)) (c .before .before .before .before .before .before .before .before .before .before .before .before .before .record-at .result)) (c .before .before .before .loop2 .g) (c .before .before .before .loop2 .inv .1) (sym (c .before .comes-back-otherwise .ensures) ∙ c .if3 .left))
+loop2-again c = (omega arith, some-more (comesBackOtherwise (now (c .before .before .before .before .before .before .before .before .before .before .before .before .before .before .before .before .before .args .s)) (c .before .before .before .before .before .before .before .before .before .before .before .before .before .record-at .result)) (c .before .before .before .loop2 .h) (c .before .before .before .loop2 .inv .1) (sym (c .before .comes-back-otherwise .ensures) ∙ c .if3 .left))
 
 -- behind the inner loops: each Gosub of a Return comes back at a rule, and at one that declares the same
 kept : (c : tie.Joined1 Inv-loop μ-loop Inv-loop2 μ-loop2 Inv-rules μ-rules)
@@ -134,7 +138,7 @@ kept c =
     ⊎-elim
     (λ w.
     let e : w .1 .g ≡ count s = omega (arith, w .1 .inv .0, w .2 .left) in
-    let f : w .3 .g ≡ count s = omega (arith, w .3 .inv .0, w .4 .left) in
+    let f : w .3 .h ≡ count s = omega (arith, w .3 .inv .0, w .4 .left) in
     (stays s i (own .result) (own .ensures) (rw e at (w .1 .inv .1)), agrees s i (own .result) (own .ensures) (rw f at (w .3 .inv .1))))
     (λ w. no-return s i (own .result) (own .ensures) (ap isReturn (sym (c .before .before .action-of .ensures)) ∙ sym (c .before .is-return .ensures) ∙ w .left))
     (c .if1 .came)
@@ -153,7 +157,10 @@ rules-less c = omega arith
 
 -- src/lib.rt:356:5
 rules-again : tie.Need-rules-again Inv-loop μ-loop Inv-loop2 μ-loop2 Inv-rules μ-rules
-rules-again c = let s = now (c .before .before .before .before .before .before .before .before .before .before .before .before .before .before .args .s) in let i = c .before .before .before .before .before .before .before .before .before .before .before .before .rules .i in (omega arith, c .enum-told3 .given .1, one-more (ruleCheck s) i (c .before .before .before .before .before .before .before .before .before .before .before .before .rules .inv .2) (goes-on s (i + 1) (c .before .before .before .before .before .before .before .before .before .before .record-at .result) (c .before .before .before .before .before .before .before .before .before .before .record-at .ensures) (sym (c .before .before .before .before .before .before .before .before .check-record .ensures) ∙ c .before .before .before .before .before .before .enum-told .given .1) (kept (c .before .before .before) .0) ∙ sym (c .before .before .check-rest .ensures) ∙ c .enum-told3 .given .1))
+rules-again c =
+    let s = now (c .before .before .before .before .before .before .before .before .before .before .before .before .before .before .args .s) in
+    let i = c .before .before .before .before .before .before .before .before .before .before .before .before .rules .i in
+    (omega arith, c .enum-told3 .given .1, one-more (ruleCheck s) i (c .before .before .before .before .before .before .before .before .before .before .before .before .rules .inv .2) (goes-on s (i + 1) (c .before .before .before .before .before .before .before .before .before .before .record-at .result) (c .before .before .before .before .before .before .before .before .before .before .record-at .ensures) (sym (c .before .before .before .before .before .before .before .before .check-record .ensures) ∙ c .before .before .before .before .before .before .enum-told .given .1) (kept (c .before .before .before) .0) ∙ sym (c .before .before .check-rest .ensures) ∙ c .enum-told3 .given .1))
 
 -- src/lib.rt:384:13
 enum-told-4 : tie.Need-enum-told-4 Inv-loop μ-loop Inv-loop2 μ-loop2 Inv-rules μ-rules
@@ -184,7 +191,7 @@ out c =
     let e : w .9 .g ≡ count s = omega (arith, w .9 .inv .0, w .10 .left) in
     first-broken (ruleCheck s) i (count s) _ _ _ (inv .2) (omega arith)
     (breaks-successor s (i + 1) (w .1 .result) (w .1 .ensures) (sym (w .3 .ensures) ∙ w .5 .given .1) (ap isReturn (sym (w .6 .ensures)) ∙ sym (w .7 .ensures) ∙ w .8 .taken) (rw e at (w .9 .inv .1))
-    (some-here (comesBackOtherwise s (w .1 .result)) (count s) (w .11 .g + 1) (omega arith) (omega arith) (sym (w .13 .ensures) ∙ w .14 .taken))) (w .15) (w .16))
+    (some-here (comesBackOtherwise s (w .1 .result)) (count s) (w .11 .h + 1) (omega arith) (omega arith) (sym (w .13 .ensures) ∙ w .14 .taken))) (w .15) (w .16))
     (λ w.
     let j : tie.Joined1 Inv-loop μ-loop Inv-loop2 μ-loop2 Inv-rules μ-rules = record { before = record { before = record { before = record { before = record { before = record { before = record { before = record { before = record { before = c .before; rules-test = w .0 }; record-at = w .1 }; rule = w .2 }; check-record = w .3 }; match = w .4 }; enum-told = w .5 }; action-of = w .6 }; is-return = w .7 }; if1 = w .8 } in
     first-broken (ruleCheck s) i (count s) _ _ _ (inv .2) (omega arith)
@@ -219,7 +226,7 @@ first-refusal-spec =
     loop-less
     loop-again
     loop2-holds
-    add-g-2
+    add-h
     comes-back-otherwise-requires
     loop2-less
     loop2-again

@@ -1,4 +1,5 @@
 use borrow.Author.Needs.{needs}
+use native.Mathlib.Omega.{arith}
 use mathlib.Core.Path.{sym, _∙_}
 use Rattle.check_rules.proofs.Records.{target-behind, target-ahead, target-of-return}
 use Rattle.check_rules.proofs.is_bad_target.Statement.{statement}
@@ -14,11 +15,11 @@ has-goto-flag-requires c κs = search needs
 
 -- src/lib.rt:142:13
 returns : tie.Need-returns
-returns c = target-behind (c .before .before .before .args .action) _ (c .before .before .before .args .i) (c .before .before .before .args .parameter) (sym (c .before .before .has-goto-flag .ensures) ∙ c .before .if1 .taken) (c .if2 .taken)
+returns c = target-behind (c .before .before .before .args .action) _ (c .before .before .before .args .i) (c .before .before .before .args .parameter) (sym (c .before .before .has-goto-flag .ensures) ∙ c .before .if1 .taken) (omega (arith, c .if2 .taken))
 
 -- src/lib.rt:144:9
 returns-2 : tie.Need-returns-2
-returns-2 c = target-ahead (c .before .before .before .args .action) (c .before .before .before .args .n) (c .before .before .before .args .i) (c .before .before .before .args .parameter) (sym (c .before .before .has-goto-flag .ensures) ∙ c .before .if1 .taken) (c .if2 .left)
+returns-2 c = target-ahead (c .before .before .before .args .action) (c .before .before .before .args .n) (c .before .before .before .args .i) (c .before .before .before .args .parameter) (sym (c .before .before .has-goto-flag .ensures) ∙ c .before .if1 .taken) (omega (arith, c .if2 .left))
 
 -- src/lib.rt:146:8
 is-return-requires : tie.Need-is-return-requires
