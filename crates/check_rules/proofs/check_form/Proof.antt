@@ -1,0 +1,40 @@
+use borrow.Author.Needs.{needs}
+use mathlib.Core.Path.{refl, sym, _∙_, ap}
+use mathlib.Core.Bool.{true, false, not}
+use borrow.Author.Tests.{eq-eqb, ne-eqb}
+use Rattle.check_rules.proofs.Records.{form-is}
+use Rattle.check_rules.proofs.check_form.Statement.{statement}
+use Rattle.check_rules.proofs.check_form.Tie as tie
+use Rattle.check_rules.proofs.check_form.Reads as reads
+use Rattle.check_rules.proofs.check_form.Lts as lts
+use Rattle.check_rules.proofs.is_bad_opcode.Reads as is-bad-opcode-reads
+use Rattle.check_rules.proofs.is_known.Reads as is-known-reads
+
+-- src/lib.rt:52:9
+returns : tie.Need-returns
+returns c = form-is (c .before .args .mark) (c .before .args .attribute) (c .before .args .opcode) true _ _ (sym (ap not (ne-eqb (c .before .args .mark) 21109 (c .if1 .taken)))) refl refl
+
+-- src/lib.rt:54:9
+is-known-requires : tie.Need-is-known-requires
+is-known-requires c κs = search needs
+
+-- src/lib.rt:55:9
+returns-2 : tie.Need-returns-2
+returns-2 c = form-is (c .before .before .before .args .mark) (c .before .before .before .args .attribute) (c .before .before .before .args .opcode) false true _ (sym (ap not (eq-eqb (c .before .before .before .args .mark) 21109 (c .before .before .if1 .left)))) (sym (c .if2 .taken) ∙ ap not (c .before .is-known .ensures)) refl
+
+-- src/lib.rt:57:8
+is-bad-opcode-requires : tie.Need-is-bad-opcode-requires
+is-bad-opcode-requires c κs = search needs
+
+-- src/lib.rt:58:9
+returns-3 : tie.Need-returns-3
+returns-3 c = form-is (c .before .before .before .before .before .args .mark) (c .before .before .before .before .before .args .attribute) (c .before .before .before .before .before .args .opcode) false false true (sym (ap not (eq-eqb (c .before .before .before .before .before .args .mark) 21109 (c .before .before .before .before .if1 .left)))) (sym (c .before .before .if2 .left) ∙ ap not (c .before .before .before .is-known .ensures)) (sym (c .if3 .taken) ∙ c .before .is-bad-opcode .ensures)
+
+-- src/lib.rt:48:1
+returns-4 : tie.Need-returns-4
+returns-4 c = form-is (c .before .before .before .before .before .args .mark) (c .before .before .before .before .before .args .attribute) (c .before .before .before .before .before .args .opcode) false false false (sym (ap not (eq-eqb (c .before .before .before .before .before .args .mark) 21109 (c .before .before .before .before .if1 .left)))) (sym (c .before .before .if2 .left) ∙ ap not (c .before .before .before .is-known .ensures)) (sym (c .if3 .left) ∙ c .before .is-bad-opcode .ensures)
+
+pub check-form-spec : {M : Type 1} → statement M
+check-form-spec =
+    tie.close
+    (tie.spec returns is-known-requires returns-2 is-bad-opcode-requires returns-3 returns-4)

@@ -1,0 +1,239 @@
+use Prim.Native.Nat.{_+_, _-_, _≤_}
+use native.Mathlib.Omega.{arith}
+use mathlib.Core.Path.{_≡_, refl, sym, _∙_, ap}
+use mathlib.Core.Logic.{⊎-elim}
+use mathlib.Core.Bool.{false}
+use denote.Ref.{now}
+use borrow.Author.Needs.{needs}
+use Rattle.rules.proofs.Tests.{some-false}
+use Rattle.rules.specs.declared.RuleCheck.the-variants.{Fine}
+use Rattle.rules.specs.declared.CheckAnswer.the-variants.{Accepted}
+use Rattle.rules.specs.Records.{count, ruleOf, declaredOf}
+use Rattle.rules.specs.Checks.{some, escapes, returnDiffers, named, firstOf, ruleCheck}
+use Rattle.rules.specs.Opcodes.{isReturn}
+use Rattle.check_rules.specs.ByRecord.{comesBackNowhere, comesBackOtherwise}
+use Rattle.check_rules.proofs.Gosubs.{some-more, some-here}
+use Rattle.check_rules.proofs.RuleChecks.{breaks-alone, no-return, goes-on, stays, agrees, breaks-target, breaks-successor}
+use Rattle.check_rules.proofs.Scan.{one-more, first-broken, none-broken}
+use Rattle.check_rules.proofs.first_refusal.Statement.{statement}
+use Rattle.check_rules.proofs.first_refusal.Tie as tie
+use Rattle.check_rules.proofs.first_refusal.Reads as reads
+use Rattle.check_rules.proofs.first_refusal.Lts as lts
+use Rattle.check_rules.proofs.answer_of.Reads as answer-of-reads
+use Rattle.check_rules.proofs.check_record.Reads as check-record-reads
+use Rattle.check_rules.proofs.check_rest.Reads as check-rest-reads
+use Rattle.check_rules.proofs.comes_back_nowhere.Reads as comes-back-nowhere-reads
+use Rattle.check_rules.proofs.comes_back_otherwise.Reads as comes-back-otherwise-reads
+use Rattle.check_rules.proofs.is_return.Reads as is-return-reads
+use Rattle.rules.proofs.action_of.Reads as action-of-reads
+use Rattle.rules.proofs.record_at.Reads as record-at-reads
+
+abbrev Inv-loop : tie.InvT-loop
+Inv-loop s n i own g₀ g = (g ≤ n) × (some (comesBackNowhere s n own) g ≡ false)
+
+abbrev μ-loop : tie.MeasureT-loop
+μ-loop s n i own g₀ g = n - g
+
+abbrev Inv-loop2 : tie.InvT-loop2
+Inv-loop2 s n i own g h₀ h = (h ≤ n) × (some (comesBackOtherwise s own) h ≡ false)
+
+abbrev μ-loop2 : tie.MeasureT-loop2
+μ-loop2 s n i own g h₀ h = n - h
+
+abbrev Inv-rules : tie.InvT-rules
+Inv-rules s n i₀ found₀ i found = (i ≤ n) × (found ≡ Fine) × (firstOf (ruleCheck s) i ≡ Accepted)
+
+abbrev μ-rules : tie.MeasureT-rules
+μ-rules s n i₀ found₀ i found = n - i
+
+-- src/lib.rt:356:5
+rules-holds : tie.Need-rules-holds Inv-loop μ-loop Inv-loop2 μ-loop2 Inv-rules μ-rules
+rules-holds c = (omega arith, refl, unfold firstOf in refl)
+
+-- src/lib.rt:357:9
+add-i : tie.Need-add-i Inv-loop μ-loop Inv-loop2 μ-loop2 Inv-rules μ-rules
+add-i c = omega arith
+
+-- src/lib.rt:358:13
+record-at-requires :
+    tie.Need-record-at-requires Inv-loop μ-loop Inv-loop2 μ-loop2 Inv-rules μ-rules
+record-at-requires c κs = search needs
+
+-- src/lib.rt:360:9
+check-record-requires :
+    tie.Need-check-record-requires Inv-loop μ-loop Inv-loop2 μ-loop2 Inv-rules μ-rules
+check-record-requires c κs = search needs
+
+enum-told : tie.Need-enum-told Inv-loop μ-loop Inv-loop2 μ-loop2 Inv-rules μ-rules
+enum-told c = c .match .keys1
+
+-- src/lib.rt:362:13
+enum-told-2 : tie.Need-enum-told-2 Inv-loop μ-loop Inv-loop2 μ-loop2 Inv-rules μ-rules
+enum-told-2 c = c .match .keys2
+
+-- src/lib.rt:364:22
+action-of-requires :
+    tie.Need-action-of-requires Inv-loop μ-loop Inv-loop2 μ-loop2 Inv-rules μ-rules
+action-of-requires c κs = search needs
+
+-- src/lib.rt:364:12
+is-return-requires :
+    tie.Need-is-return-requires Inv-loop μ-loop Inv-loop2 μ-loop2 Inv-rules μ-rules
+is-return-requires c κs = search needs
+
+-- src/lib.rt:366:13
+loop-holds : tie.Need-loop-holds Inv-loop μ-loop Inv-loop2 μ-loop2 Inv-rules μ-rules
+loop-holds c = (omega arith, refl)
+
+-- src/lib.rt:367:17
+add-g : tie.Need-add-g Inv-loop μ-loop Inv-loop2 μ-loop2 Inv-rules μ-rules
+add-g c = omega arith
+
+-- src/lib.rt:368:20
+comes-back-nowhere-requires :
+    tie.Need-comes-back-nowhere-requires Inv-loop μ-loop Inv-loop2 μ-loop2 Inv-rules μ-rules
+comes-back-nowhere-requires c κs = omega arith
+
+-- src/lib.rt:366:13
+loop-less : tie.Need-loop-less Inv-loop μ-loop Inv-loop2 μ-loop2 Inv-rules μ-rules
+loop-less c = omega arith
+
+-- src/lib.rt:366:13
+loop-again : tie.Need-loop-again Inv-loop μ-loop Inv-loop2 μ-loop2 Inv-rules μ-rules
+loop-again c = (omega arith, some-more (comesBackNowhere (now (c .before .before .before .before .before .before .before .before .before .before .before .before .before .before .before .args .s)) (count (now (c .before .before .before .before .before .before .before .before .before .before .before .before .before .before .before .args .s))) (c .before .before .before .before .before .before .before .before .before .before .before .record-at .result)) (c .before .before .before .loop .g) (c .before .before .before .loop .inv .1) (sym (c .before .comes-back-nowhere .ensures) ∙ c .if2 .left))
+
+-- src/lib.rt:374:13
+loop2-holds : tie.Need-loop2-holds Inv-loop μ-loop Inv-loop2 μ-loop2 Inv-rules μ-rules
+loop2-holds c = (omega arith, refl)
+
+-- src/lib.rt:375:17
+add-h : tie.Need-add-h Inv-loop μ-loop Inv-loop2 μ-loop2 Inv-rules μ-rules
+add-h c = omega arith
+
+-- src/lib.rt:376:20
+comes-back-otherwise-requires :
+    tie.Need-comes-back-otherwise-requires Inv-loop μ-loop Inv-loop2 μ-loop2 Inv-rules μ-rules
+comes-back-otherwise-requires c κs =
+    let s = now (c .before .before .before .before .before .before .before .before .before .before .before .before .before .before .before .args .s) in
+    let l = c .before .before .before .loop in
+    let e : l .g ≡ count s = omega (arith, l .inv .0, c .before .before .loop-test .left) in
+    some-false (comesBackNowhere s (count s) (c .before .before .before .before .before .before .before .before .before .before .before .record-at .result)) (count s) (rw e at (l .inv .1)) (c .before .loop2 .h + 1) (omega arith) (omega arith)
+
+-- src/lib.rt:374:13
+loop2-less : tie.Need-loop2-less Inv-loop μ-loop Inv-loop2 μ-loop2 Inv-rules μ-rules
+loop2-less c = omega arith
+
+-- src/lib.rt:374:13
+loop2-again : tie.Need-loop2-again Inv-loop μ-loop Inv-loop2 μ-loop2 Inv-rules μ-rules
+loop2-again c = (omega arith, some-more (comesBackOtherwise (now (c .before .before .before .before .before .before .before .before .before .before .before .before .before .before .before .before .before .args .s)) (c .before .before .before .before .before .before .before .before .before .before .before .before .before .record-at .result)) (c .before .before .before .loop2 .h) (c .before .before .before .loop2 .inv .1) (sym (c .before .comes-back-otherwise .ensures) ∙ c .if3 .left))
+
+-- behind the inner loops: each Gosub of a Return comes back at a rule, and at one that declares the same
+kept : (c : tie.Joined1 Inv-loop μ-loop Inv-loop2 μ-loop2 Inv-rules μ-rules)
+    → (escapes (count (now (c .before .before .before .before .before .before .before .before .before .before .before .args .s))) (ruleOf (now (c .before .before .before .before .before .before .before .before .before .before .before .args .s))) (declaredOf (now (c .before .before .before .before .before .before .before .before .before .before .before .args .s))) (c .before .before .before .before .before .before .before .before .before .rules .i + 1) ≡ false)
+    × (returnDiffers (count (now (c .before .before .before .before .before .before .before .before .before .before .before .args .s))) (ruleOf (now (c .before .before .before .before .before .before .before .before .before .before .before .args .s))) (declaredOf (now (c .before .before .before .before .before .before .before .before .before .before .before .args .s))) (c .before .before .before .before .before .before .before .before .before .rules .i + 1) ≡ false)
+kept c =
+    let s = now (c .before .before .before .before .before .before .before .before .before .before .before .args .s) in
+    let i = c .before .before .before .before .before .before .before .before .before .rules .i + 1 in
+    let own = c .before .before .before .before .before .before .before .record-at in
+    ⊎-elim
+    (λ w.
+    let e : w .1 .g ≡ count s = omega (arith, w .1 .inv .0, w .2 .left) in
+    let f : w .3 .h ≡ count s = omega (arith, w .3 .inv .0, w .4 .left) in
+    (stays s i (own .result) (own .ensures) (rw e at (w .1 .inv .1)), agrees s i (own .result) (own .ensures) (rw f at (w .3 .inv .1))))
+    (λ w. no-return s i (own .result) (own .ensures) (ap isReturn (sym (c .before .before .action-of .ensures)) ∙ sym (c .before .is-return .ensures) ∙ w .left))
+    (c .if1 .came)
+
+-- src/lib.rt:382:9
+check-rest-requires :
+    tie.Need-check-rest-requires Inv-loop μ-loop Inv-loop2 μ-loop2 Inv-rules μ-rules
+check-rest-requires c κs = kept c .1
+
+enum-told-3 : tie.Need-enum-told-3 Inv-loop μ-loop Inv-loop2 μ-loop2 Inv-rules μ-rules
+enum-told-3 c = c .match2 .keys1
+
+-- src/lib.rt:356:5
+rules-less : tie.Need-rules-less Inv-loop μ-loop Inv-loop2 μ-loop2 Inv-rules μ-rules
+rules-less c = omega arith
+
+-- src/lib.rt:356:5
+rules-again : tie.Need-rules-again Inv-loop μ-loop Inv-loop2 μ-loop2 Inv-rules μ-rules
+rules-again c =
+    let s = now (c .before .before .before .before .before .before .before .before .before .before .before .before .before .before .args .s) in
+    let i = c .before .before .before .before .before .before .before .before .before .before .before .before .rules .i in
+    (omega arith, c .enum-told3 .given .1, one-more (ruleCheck s) i (c .before .before .before .before .before .before .before .before .before .before .before .before .rules .inv .2) (goes-on s (i + 1) (c .before .before .before .before .before .before .before .before .before .before .record-at .result) (c .before .before .before .before .before .before .before .before .before .before .record-at .ensures) (sym (c .before .before .before .before .before .before .before .before .check-record .ensures) ∙ c .before .before .before .before .before .before .enum-told .given .1) (kept (c .before .before .before) .0) ∙ sym (c .before .before .check-rest .ensures) ∙ c .enum-told3 .given .1))
+
+-- src/lib.rt:384:13
+enum-told-4 : tie.Need-enum-told-4 Inv-loop μ-loop Inv-loop2 μ-loop2 Inv-rules μ-rules
+enum-told-4 c = c .match2 .keys2
+
+-- src/lib.rt:387:5
+answer-of-requires :
+    tie.Need-answer-of-requires Inv-loop μ-loop Inv-loop2 μ-loop2 Inv-rules μ-rules
+answer-of-requires c κs = search needs
+
+-- how the outer loop is left: by its test, or by one of the four breaks
+out : (c : tie.Left-rules Inv-loop μ-loop Inv-loop2 μ-loop2 Inv-rules μ-rules)
+    → firstOf (ruleCheck (now (c .before .before .before .args .s))) (count (now (c .before .before .before .args .s))) ≡ named (c .rules-test .found) (c .rules-test .i)
+out c =
+    let s = now (c .before .before .before .args .s) in
+    let i = c .before .rules .i in
+    let inv = c .before .rules .inv in
+    ⊎-elim
+    (λ w. none-broken (ruleCheck s) i (count s) _ _ (inv .2) (omega arith) (w .2 ∙ inv .1))
+    (⊎-elim
+    (λ w. first-broken (ruleCheck s) i (count s) _ _ _ (inv .2) (omega arith) (breaks-alone s (i + 1) (w .1 .result) (w .1 .ensures) _ (sym (w .3 .ensures) ∙ w .5 .given .1)) (w .6) (w .7 ∙ w .5 .given .1))
+    (⊎-elim
+    (λ w. first-broken (ruleCheck s) i (count s) _ _ _ (inv .2) (omega arith)
+    (breaks-target s (i + 1) (w .1 .result) (w .1 .ensures) (sym (w .3 .ensures) ∙ w .5 .given .1) (ap isReturn (sym (w .6 .ensures)) ∙ sym (w .7 .ensures) ∙ w .8 .taken)
+    (some-here (comesBackNowhere s (count s) (w .1 .result)) (count s) (w .9 .g + 1) (omega arith) (omega arith) (sym (w .11 .ensures) ∙ w .12 .taken))) (w .13) (w .14))
+    (⊎-elim
+    (λ w.
+    let e : w .9 .g ≡ count s = omega (arith, w .9 .inv .0, w .10 .left) in
+    first-broken (ruleCheck s) i (count s) _ _ _ (inv .2) (omega arith)
+    (breaks-successor s (i + 1) (w .1 .result) (w .1 .ensures) (sym (w .3 .ensures) ∙ w .5 .given .1) (ap isReturn (sym (w .6 .ensures)) ∙ sym (w .7 .ensures) ∙ w .8 .taken) (rw e at (w .9 .inv .1))
+    (some-here (comesBackOtherwise s (w .1 .result)) (count s) (w .11 .h + 1) (omega arith) (omega arith) (sym (w .13 .ensures) ∙ w .14 .taken))) (w .15) (w .16))
+    (λ w.
+    let j : tie.Joined1 Inv-loop μ-loop Inv-loop2 μ-loop2 Inv-rules μ-rules = record { before = record { before = record { before = record { before = record { before = record { before = record { before = record { before = record { before = c .before; rules-test = w .0 }; record-at = w .1 }; rule = w .2 }; check-record = w .3 }; match = w .4 }; enum-told = w .5 }; action-of = w .6 }; is-return = w .7 }; if1 = w .8 } in
+    first-broken (ruleCheck s) i (count s) _ _ _ (inv .2) (omega arith)
+    (goes-on s (i + 1) (w .1 .result) (w .1 .ensures) (sym (w .3 .ensures) ∙ w .5 .given .1) (kept j .0) ∙ sym (w .9 .ensures) ∙ w .11 .given .1) (w .12) (w .13 ∙ w .11 .given .1)))))
+    (c .rules-test .came)
+
+-- src/lib.rt:347:1
+returns : tie.Need-returns Inv-loop μ-loop Inv-loop2 μ-loop2 Inv-rules μ-rules
+returns c = c .answer-of .ensures ∙ sym (out (c .before))
+
+pub first-refusal-spec : {M : Type 1} → statement M
+first-refusal-spec =
+    tie.close
+    (tie.spec
+    Inv-loop
+    μ-loop
+    Inv-loop2
+    μ-loop2
+    Inv-rules
+    μ-rules
+    rules-holds
+    add-i
+    record-at-requires
+    check-record-requires
+    enum-told
+    enum-told-2
+    action-of-requires
+    is-return-requires
+    loop-holds
+    add-g
+    comes-back-nowhere-requires
+    loop-less
+    loop-again
+    loop2-holds
+    add-h
+    comes-back-otherwise-requires
+    loop2-less
+    loop2-again
+    check-rest-requires
+    enum-told-3
+    rules-less
+    rules-again
+    enum-told-4
+    answer-of-requires
+    returns)

@@ -1,0 +1,24 @@
+use borrow.Author.Needs.{needs}
+use mathlib.Core.Path.{refl}
+use mathlib.Core.List.{[], _∷_}
+use Rattle.rules.specs.Opcodes.{isReturn}
+use Rattle.check_rules.proofs.Actions.{fails-among}
+use Rattle.check_rules.proofs.is_return.Statement.{statement}
+use Rattle.check_rules.proofs.is_return.Tie as tie
+use Rattle.check_rules.proofs.is_return.Reads as reads
+use Rattle.check_rules.proofs.is_return.Lts as lts
+
+-- src/lib.rt:67:27
+enum-told : tie.Need-enum-told
+enum-told c = search needs
+
+-- src/lib.rt:63:1
+returns : tie.Need-returns
+returns c = search needs
+
+-- src/lib.rt:63:1
+returns-2 : tie.Need-returns-2
+returns-2 c = fails-among (0 ∷ 1 ∷ 2 ∷ 3 ∷ 4 ∷ 6 ∷ 7 ∷ 8 ∷ 9 ∷ 10 ∷ []) isReturn refl (c .before .args .action) (c .match .keys2)
+
+pub is-return-spec : {M : Type 1} → statement M
+is-return-spec = tie.close (tie.spec enum-told returns returns-2)

@@ -1,0 +1,68 @@
+use borrow.Author.Needs.{needs}
+use mathlib.Core.Path.{refl, sym, _∙_}
+use mathlib.Core.Bool.{true, false}
+use denote.Ref.{now}
+use Rattle.rules.specs.Records.{recordOf}
+use Rattle.check_rules.proofs.Successors.{no-next, next-is}
+use Rattle.check_rules.proofs.next_differs.Statement.{statement}
+use Rattle.check_rules.proofs.next_differs.Tie as tie
+use Rattle.check_rules.proofs.next_differs.Reads as reads
+use Rattle.check_rules.proofs.next_differs.Lts as lts
+use Rattle.check_rules.proofs.are_both_zero.Reads as are-both-zero-reads
+use Rattle.check_rules.proofs.declares_otherwise.Reads as declares-otherwise-reads
+use Rattle.rules.proofs.record_at.Reads as record-at-reads
+
+-- src/lib.rt:270:9
+returns : tie.Need-returns
+returns c = no-next (recordOf (now (c .before .before .args .s))) (c .before .before .args .n) (c .before .before .args .i) (c .if1 .taken)
+
+-- src/lib.rt:272:9
+record-at-requires : tie.Need-record-at-requires
+record-at-requires c κs = search needs
+
+-- src/lib.rt:274:8
+are-both-zero-requires : tie.Need-are-both-zero-requires
+are-both-zero-requires c κs = search needs
+
+-- src/lib.rt:275:9
+returns-2 : tie.Need-returns-2
+returns-2 c = let a = c .before .before .before .before .before .before .args in next-is (recordOf (now (a .s))) (a .n) (a .i) (c .before .before .before .record-at .result) _ true (c .before .before .before .before .if1 .left) (c .before .before .before .record-at .ensures) (sym (c .if2 .taken) ∙ c .before .are-both-zero .ensures) refl
+
+-- src/lib.rt:277:36
+add-record-at : tie.Need-add-record-at
+add-record-at c = search needs
+
+-- src/lib.rt:277:9
+record-at-requires-2 : tie.Need-record-at-requires-2
+record-at-requires-2 c κs = search needs
+
+-- src/lib.rt:280:46
+cast-declares-otherwise : tie.Need-cast-declares-otherwise
+cast-declares-otherwise c = search needs
+
+-- src/lib.rt:280:71
+cast-declares-otherwise-2 : tie.Need-cast-declares-otherwise-2
+cast-declares-otherwise-2 c = search needs
+
+-- src/lib.rt:280:5
+declares-otherwise-requires : tie.Need-declares-otherwise-requires
+declares-otherwise-requires c κs = search needs
+
+-- src/lib.rt:266:1
+returns-3 : tie.Need-returns-3
+returns-3 c = let a = c .before .before .before .before .before .before .before .before .before .before .before .before .args in c .declares-otherwise .ensures ∙ next-is (recordOf (now (a .s))) (a .n) (a .i) (c .before .before .before .before .before .before .before .before .before .record-at .result) (c .before .before .before .before .before .record-at2 .result) false (c .before .before .before .before .before .before .before .before .before .before .if1 .left) (c .before .before .before .before .before .before .before .before .before .record-at .ensures) (sym (c .before .before .before .before .before .before .if2 .left) ∙ c .before .before .before .before .before .before .before .are-both-zero .ensures) (c .before .before .before .before .before .record-at2 .ensures)
+
+pub next-differs-spec : {M : Type 1} → statement M
+next-differs-spec =
+    tie.close
+    (tie.spec
+    returns
+    record-at-requires
+    are-both-zero-requires
+    returns-2
+    add-record-at
+    record-at-requires-2
+    cast-declares-otherwise
+    cast-declares-otherwise-2
+    declares-otherwise-requires
+    returns-3)

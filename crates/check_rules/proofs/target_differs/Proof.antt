@@ -1,0 +1,98 @@
+use borrow.Author.Needs.{needs}
+use mathlib.Core.Path.{sym, _∙_, ap}
+use denote.Ref.{now}
+use Rattle.rules.specs.declared.Action.{Action}
+use Rattle.rules.specs.Opcodes.{gotoFlag, isGosub}
+use Rattle.rules.specs.Records.{count, recordOf}
+use Rattle.rules.specs.Checks.{differs, heldAfter}
+use Rattle.check_rules.proofs.Successors.{held-fine, no-target, gosub-target, other-target}
+use Rattle.check_rules.proofs.target_differs.Statement.{statement}
+use Rattle.check_rules.proofs.target_differs.Tie as tie
+use Rattle.check_rules.proofs.target_differs.Reads as reads
+use Rattle.check_rules.proofs.target_differs.Lts as lts
+use Rattle.check_rules.proofs.declares_otherwise.Reads as declares-otherwise-reads
+use Rattle.check_rules.proofs.has_goto_flag.Reads as has-goto-flag-reads
+use Rattle.check_rules.proofs.held_after.Reads as held-after-reads
+use Rattle.check_rules.proofs.is_gosub.Reads as is-gosub-reads
+use Rattle.rules.proofs.action_of.Reads as action-of-reads
+use Rattle.rules.proofs.record_at.Reads as record-at-reads
+
+-- src/lib.rt:288:9
+record-at-requires : tie.Need-record-at-requires
+record-at-requires c κs = search needs
+
+-- src/lib.rt:291:9
+action-of-requires : tie.Need-action-of-requires
+action-of-requires c κs = search needs
+
+-- src/lib.rt:292:8
+has-goto-flag-requires : tie.Need-has-goto-flag-requires
+has-goto-flag-requires c κs = search needs
+
+-- src/lib.rt:293:13
+record-at-requires-2 : tie.Need-record-at-requires-2
+record-at-requires-2 c κs = search needs
+
+-- src/lib.rt:295:12
+is-gosub-requires : tie.Need-is-gosub-requires
+is-gosub-requires c κs = search needs
+
+-- src/lib.rt:296:62
+cast-declares-otherwise : tie.Need-cast-declares-otherwise
+cast-declares-otherwise c = search needs
+
+-- src/lib.rt:296:62
+add-declares-otherwise : tie.Need-add-declares-otherwise
+add-declares-otherwise c = search needs
+
+-- src/lib.rt:296:91
+cast-declares-otherwise-2 : tie.Need-cast-declares-otherwise-2
+cast-declares-otherwise-2 c = search needs
+
+-- src/lib.rt:296:13
+declares-otherwise-requires : tie.Need-declares-otherwise-requires
+declares-otherwise-requires c κs = search needs
+
+-- src/lib.rt:296:13
+returns : tie.Need-returns
+returns c = let a = c .before .before .before .before .before .before .before .before .before .before .before .before .before .before .args in c .declares-otherwise .ensures ∙ gosub-target (recordOf (now (a .s))) (count (now (a .s))) (a .i) (c .before .before .before .before .before .before .before .before .before .before .before .before .record-at .result) (c .before .before .before .before .before .before .record-at2 .result) (c .before .before .before .before .before .before .before .before .before .before .before .before .record-at .ensures) (c .before .before .before .before .before .before .record-at2 .ensures) (ap gotoFlag (sym (c .before .before .before .before .before .before .before .before .before .action-of .ensures)) ∙ sym (c .before .before .before .before .before .before .before .before .has-goto-flag .ensures) ∙ c .before .before .before .before .before .before .before .if1 .taken) (ap isGosub (sym (c .before .before .before .before .before .before .before .before .before .action-of .ensures)) ∙ sym (c .before .before .before .before .is-gosub .ensures) ∙ c .before .before .before .if2 .taken)
+
+-- src/lib.rt:298:57
+cast-declares-otherwise-3 : tie.Need-cast-declares-otherwise-3
+cast-declares-otherwise-3 c = search needs
+
+-- src/lib.rt:298:82
+held-after-requires : tie.Need-held-after-requires
+held-after-requires c κs = held-fine (recordOf (now (c .before .before .before .before .before .before .before .before .before .before .before .before .args .s))) (c .before .before .before .before .before .before .before .before .before .before .before .before .args .i) (c .before .before .before .before .before .before .before .before .before .before .record-at .result) _ (c .before .before .before .before .before .before .before .before .before .before .record-at .ensures) (c .before .before .before .before .before .before .before .action-of .ensures) (c .before .before .before .before .before .before .before .before .before .before .before .before .pre)
+
+-- src/lib.rt:298:9
+declares-otherwise-requires-2 : tie.Need-declares-otherwise-requires-2
+declares-otherwise-requires-2 c κs = search needs
+
+-- src/lib.rt:298:9
+returns-2 : tie.Need-returns-2
+returns-2 c = let a = c .before .before .before .before .before .before .before .before .before .before .before .before .before .before .args in c .declares-otherwise2 .ensures ∙ ap (differs (c .before .before .before .before .before .before .record-at2 .result .declared) (c .before .before .before .before .before .before .before .before .before .before .before .before .record-at .result .declared .home) (c .before .before .before .before .before .before .before .before .before .before .before .before .record-at .result .declared .depth)) (c .before .held-after .ensures ∙ ap (λ (x : Action). heldAfter x (c .before .before .before .before .before .before .before .before .before .before .before .before .record-at .result .declared .held)) (c .before .before .before .before .before .before .before .before .before .action-of .ensures)) ∙ other-target (recordOf (now (a .s))) (count (now (a .s))) (a .i) (c .before .before .before .before .before .before .before .before .before .before .before .before .record-at .result) (c .before .before .before .before .before .before .record-at2 .result) (c .before .before .before .before .before .before .before .before .before .before .before .before .record-at .ensures) (c .before .before .before .before .before .before .record-at2 .ensures) (ap gotoFlag (sym (c .before .before .before .before .before .before .before .before .before .action-of .ensures)) ∙ sym (c .before .before .before .before .before .before .before .before .has-goto-flag .ensures) ∙ c .before .before .before .before .before .before .before .if1 .taken) (ap isGosub (sym (c .before .before .before .before .before .before .before .before .before .action-of .ensures)) ∙ sym (c .before .before .before .before .is-gosub .ensures) ∙ c .before .before .before .if2 .left)
+
+-- src/lib.rt:284:1
+returns-3 : tie.Need-returns-3
+returns-3 c = let a = c .before .before .before .before .before .before .before .args in no-target (recordOf (now (a .s))) (count (now (a .s))) (a .i) (c .before .before .before .before .before .record-at .result) (c .before .before .before .before .before .record-at .ensures) (ap gotoFlag (sym (c .before .before .action-of .ensures)) ∙ sym (c .before .has-goto-flag .ensures) ∙ c .if1 .left)
+
+pub target-differs-spec : {M : Type 1} → statement M
+target-differs-spec =
+    tie.close
+    (tie.spec
+    record-at-requires
+    action-of-requires
+    has-goto-flag-requires
+    record-at-requires-2
+    is-gosub-requires
+    cast-declares-otherwise
+    add-declares-otherwise
+    cast-declares-otherwise-2
+    declares-otherwise-requires
+    returns
+    cast-declares-otherwise-3
+    held-after-requires
+    declares-otherwise-requires-2
+    returns-2
+    returns-3)
