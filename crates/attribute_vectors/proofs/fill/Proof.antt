@@ -1,0 +1,40 @@
+use native.Mathlib.Omega.{arith}
+use lib.ListN.{length-take}
+use borrow.Author.Needs.{needs}
+use Rattle.attribute_vectors.proofs.fill.Statement.{statement}
+use Rattle.attribute_vectors.proofs.fill.Tie as tie
+
+-- src/main.rt:66:9
+returns : tie.Need-returns
+returns c = search needs
+
+-- src/main.rt:68:16
+slice-relend-prefix-part : tie.Need-slice-relend-prefix-part
+slice-relend-prefix-part c = search needs
+
+-- src/main.rt:68:9
+slice-aggregate-part : tie.Need-slice-aggregate-part
+slice-aggregate-part c = rw length-take (omega arith)
+
+-- src/main.rt:69:9
+read-full-requires : tie.Need-read-full-requires
+read-full-requires c κs = search needs
+
+-- src/main.rt:64:1
+same-length : tie.Need-same-length
+same-length c = search needs
+
+-- src/main.rt:64:1
+returns-2 : tie.Need-returns-2
+returns-2 c = search needs
+
+pub fill-spec : {M : Type 1} → statement M
+fill-spec =
+    tie.close
+    (tie.spec
+    returns
+    slice-relend-prefix-part
+    slice-aggregate-part
+    read-full-requires
+    same-length
+    returns-2)
