@@ -59,11 +59,15 @@ pub fn encode(datagram: &Datagram) -> Encoding {
     out.free_words(&[datagram.sequence_number, datagram.uptime]);
     out.count(datagram.samples.len());
     for sample in &datagram.samples {
-        match sample {
-            Sample::Flow(flow) => out.flow_sample(flow),
-            Sample::Counters(counters) => out.counters_sample(counters),
-        }
+        out.sample(sample);
     }
+    out
+}
+
+/// Encodes one sample, from its type word on.
+pub fn encode_sample(sample: &Sample) -> Encoding {
+    let mut out = Encoding::default();
+    out.sample(sample);
     out
 }
 
@@ -117,6 +121,13 @@ impl Encoding {
         match address {
             Address::IpV4(octets) => self.item(ItemKind::AddressOctets, octets, 0),
             Address::IpV6(octets) => self.item(ItemKind::AddressOctets, octets, 0),
+        }
+    }
+
+    fn sample(&mut self, sample: &Sample) {
+        match sample {
+            Sample::Flow(flow) => self.flow_sample(flow),
+            Sample::Counters(counters) => self.counters_sample(counters),
         }
     }
 

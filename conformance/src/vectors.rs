@@ -8,6 +8,7 @@ use crate::damage::damaged;
 use crate::dump::answer;
 use crate::edges::edge_lengths;
 use crate::encoder::encode;
+use crate::framing::{file_of, first_string};
 use crate::generator::valid_datagrams;
 use crate::random::Random;
 
@@ -66,23 +67,16 @@ fn seeded(seed: u64) -> Vec<Vector> {
 
 /// The vectors' octets, each behind its length in 4 octets, big-endian.
 pub fn framed(set: &[Vector]) -> Vec<u8> {
-    let mut out = Vec::new();
-    for vector in set {
-        let length = u32::try_from(vector.octets.len()).unwrap_or(u32::MAX);
-        out.extend(length.to_be_bytes());
-        out.extend_from_slice(&vector.octets);
-    }
-    out
+    file_of(set.iter().map(|vector| &vector.octets[..]))
 }
 
 /// The strings of octets of a framed file, or nothing if it is cut short.
 pub fn unframed(mut file: &[u8]) -> Option<Vec<&[u8]>> {
     let mut strings = Vec::new();
     while !file.is_empty() {
-        let (length, rest) = file.split_first_chunk::<4>()?;
-        let length = usize::try_from(u32::from_be_bytes(*length)).ok()?;
-        strings.push(rest.get(..length)?);
-        file = rest.get(length..)?;
+        let (octets, rest) = first_string(file)?;
+        strings.push(octets);
+        file = rest;
     }
     Some(strings)
 }
