@@ -11,7 +11,8 @@ use mir.Val.{hasKey}
 use types.Run.{OneOf, miss}
 use denote.Enum.Declared.{tagOf}
 use Rattle.rules.proofs.Action.{the-type}
-use Rattle.rules.proofs.Tests.{and-true, and-false}
+use Rattle.xdr.proofs.Tests.{and-parts}
+use Rattle.rules.proofs.Tests.{and-false}
 use Rattle.rules.specs.declared.Action.{Action}
 use Rattle.rules.specs.declared.Action.the-variants.{Unknown, Ignore, NoMatch, Count, CountPkt, Return, Gosub, Goto, PushRule, PushPkt, PopTo}
 use Rattle.rules.specs.Opcodes.{actions}
@@ -23,8 +24,8 @@ all p (a ∷ l) = p a && all p l
 
 all-at : (p : Action → Bool) (l : List Action) → all p l ≡ true → (i : ℕ) → i < length l → p (getD l i Unknown) ≡ true
 all-at p [] e i h = absurd (omega arith)
-all-at p (a ∷ l) e zero h = and-true _ _ e .0
-all-at p (a ∷ l) e (suc i) h = all-at p l (and-true (p a) _ e .1) i (omega arith)
+all-at p (a ∷ l) e zero h = and-parts _ _ e .0
+all-at p (a ∷ l) e (suc i) h = all-at p l (and-parts (p a) _ e .1) i (omega arith)
 
 -- each action has an opcode
 each : (p : Action → Bool) → all p actions ≡ true → (a : Action) → p a ≡ true
