@@ -12,43 +12,43 @@ use Rattle.check_rules.proofs.is_over_limits.Reads as is-over-limits-re
 use Rattle.check_rules.proofs.is_return_in_main.Reads as is-return-in-main-reads
 use Rattle.rules.proofs.action_of.Reads as action-of-reads
 
--- src/lib.rt:156:9
+-- src/lib.rt:157:9
 action-of-requires : tie.Need-action-of-requires
 action-of-requires c κs = search needs
 
--- src/lib.rt:157:8
+-- src/lib.rt:158:8
 is-over-limits-requires : tie.Need-is-over-limits-requires
 is-over-limits-requires c κs = search needs
 
--- src/lib.rt:158:9
+-- src/lib.rt:159:9
 returns : tie.Need-returns
 returns c = alone-is (c .before .before .before .args .n) (c .before .before .before .args .i) (c .before .before .before .args .rule) (c .before .before .before .args .declared) _ true _ _ _ (c .before .before .action-of .ensures) (sym (c .if1 .taken) ∙ c .before .is-over-limits .ensures) refl refl refl
 
--- src/lib.rt:160:8
+-- src/lib.rt:161:8
 is-bad-first-requires : tie.Need-is-bad-first-requires
 is-bad-first-requires c κs = search needs
 
--- src/lib.rt:161:9
+-- src/lib.rt:162:9
 returns-2 : tie.Need-returns-2
 returns-2 c = alone-is (c .before .before .before .before .before .args .n) (c .before .before .before .before .before .args .i) (c .before .before .before .before .before .args .rule) (c .before .before .before .before .before .args .declared) _ false true _ _ (c .before .before .before .before .action-of .ensures) (sym (c .before .before .if1 .left) ∙ c .before .before .before .is-over-limits .ensures) (sym (c .if2 .taken) ∙ c .before .is-bad-first .ensures) refl refl
 
--- src/lib.rt:163:8
+-- src/lib.rt:164:8
 is-return-in-main-requires : tie.Need-is-return-in-main-requires
 is-return-in-main-requires c κs = search needs
 
--- src/lib.rt:164:9
+-- src/lib.rt:165:9
 returns-3 : tie.Need-returns-3
 returns-3 c = alone-is (c .before .before .before .before .before .before .before .args .n) (c .before .before .before .before .before .before .before .args .i) (c .before .before .before .before .before .before .before .args .rule) (c .before .before .before .before .before .before .before .args .declared) _ false false true _ (c .before .before .before .before .before .before .action-of .ensures) (sym (c .before .before .before .before .if1 .left) ∙ c .before .before .before .before .before .is-over-limits .ensures) (sym (c .before .before .if2 .left) ∙ c .before .before .before .is-bad-first .ensures) (sym (c .if3 .taken) ∙ c .before .is-return-in-main .ensures) refl
 
--- src/lib.rt:166:8
+-- src/lib.rt:167:8
 is-bad-target-requires : tie.Need-is-bad-target-requires
 is-bad-target-requires c κs = search needs
 
--- src/lib.rt:167:9
+-- src/lib.rt:168:9
 returns-4 : tie.Need-returns-4
 returns-4 c = alone-is (c .before .before .before .before .before .before .before .before .before .args .n) (c .before .before .before .before .before .before .before .before .before .args .i) (c .before .before .before .before .before .before .before .before .before .args .rule) (c .before .before .before .before .before .before .before .before .before .args .declared) _ false false false true (c .before .before .before .before .before .before .before .before .action-of .ensures) (sym (c .before .before .before .before .before .before .if1 .left) ∙ c .before .before .before .before .before .before .before .is-over-limits .ensures) (sym (c .before .before .before .before .if2 .left) ∙ c .before .before .before .before .before .is-bad-first .ensures) (sym (c .before .before .if3 .left) ∙ c .before .before .before .is-return-in-main .ensures) (sym (c .if4 .taken) ∙ c .before .is-bad-target .ensures)
 
--- src/lib.rt:153:1
+-- src/lib.rt:154:1
 returns-5 : tie.Need-returns-5
 returns-5 c = alone-is (c .before .before .before .before .before .before .before .before .before .args .n) (c .before .before .before .before .before .before .before .before .before .args .i) (c .before .before .before .before .before .before .before .before .before .args .rule) (c .before .before .before .before .before .before .before .before .before .args .declared) _ false false false false (c .before .before .before .before .before .before .before .before .action-of .ensures) (sym (c .before .before .before .before .before .before .if1 .left) ∙ c .before .before .before .before .before .before .before .is-over-limits .ensures) (sym (c .before .before .before .before .if2 .left) ∙ c .before .before .before .before .before .is-bad-first .ensures) (sym (c .before .before .if3 .left) ∙ c .before .before .before .is-return-in-main .ensures) (sym (c .if4 .left) ∙ c .before .is-bad-target .ensures)
 

@@ -10,27 +10,27 @@ use Rattle.check_rules.proofs.check_form.Lts as lts
 use Rattle.check_rules.proofs.is_bad_opcode.Reads as is-bad-opcode-reads
 use Rattle.check_rules.proofs.is_known.Reads as is-known-reads
 
--- src/lib.rt:52:9
+-- src/lib.rt:53:9
 returns : tie.Need-returns
 returns c = form-is (c .before .args .mark) (c .before .args .attribute) (c .before .args .opcode) true _ _ (sym (ap not (ne-eqb (c .before .args .mark) 21109 (c .if1 .taken)))) refl refl
 
--- src/lib.rt:54:9
+-- src/lib.rt:55:9
 is-known-requires : tie.Need-is-known-requires
 is-known-requires c κs = search needs
 
--- src/lib.rt:55:9
+-- src/lib.rt:56:9
 returns-2 : tie.Need-returns-2
 returns-2 c = form-is (c .before .before .before .args .mark) (c .before .before .before .args .attribute) (c .before .before .before .args .opcode) false true _ (sym (ap not (eq-eqb (c .before .before .before .args .mark) 21109 (c .before .before .if1 .left)))) (sym (c .if2 .taken) ∙ ap not (c .before .is-known .ensures)) refl
 
--- src/lib.rt:57:8
+-- src/lib.rt:58:8
 is-bad-opcode-requires : tie.Need-is-bad-opcode-requires
 is-bad-opcode-requires c κs = search needs
 
--- src/lib.rt:58:9
+-- src/lib.rt:59:9
 returns-3 : tie.Need-returns-3
 returns-3 c = form-is (c .before .before .before .before .before .args .mark) (c .before .before .before .before .before .args .attribute) (c .before .before .before .before .before .args .opcode) false false true (sym (ap not (eq-eqb (c .before .before .before .before .before .args .mark) 21109 (c .before .before .before .before .if1 .left)))) (sym (c .before .before .if2 .left) ∙ ap not (c .before .before .before .is-known .ensures)) (sym (c .if3 .taken) ∙ c .before .is-bad-opcode .ensures)
 
--- src/lib.rt:48:1
+-- src/lib.rt:49:1
 returns-4 : tie.Need-returns-4
 returns-4 c = form-is (c .before .before .before .before .before .args .mark) (c .before .before .before .before .before .args .attribute) (c .before .before .before .before .before .args .opcode) false false false (sym (ap not (eq-eqb (c .before .before .before .before .before .args .mark) 21109 (c .before .before .before .before .if1 .left)))) (sym (c .before .before .if2 .left) ∙ ap not (c .before .before .before .is-known .ensures)) (sym (c .if3 .left) ∙ c .before .is-bad-opcode .ensures)
 

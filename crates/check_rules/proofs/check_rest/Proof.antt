@@ -16,39 +16,39 @@ use Rattle.check_rules.proofs.target_differs.Reads as target-differs-re
 use Rattle.rules.proofs.action_of.Reads as action-of-reads
 use Rattle.rules.proofs.record_at.Reads as record-at-reads
 
--- src/lib.rt:308:9
+-- src/lib.rt:329:9
 record-at-requires : tie.Need-record-at-requires
 record-at-requires c κs = search needs
 
--- src/lib.rt:311:21
+-- src/lib.rt:332:21
 action-of-requires : tie.Need-action-of-requires
 action-of-requires c κs = search needs
 
--- src/lib.rt:311:8
+-- src/lib.rt:332:8
 is-bad-queue-requires : tie.Need-is-bad-queue-requires
 is-bad-queue-requires c κs = search needs
 
--- src/lib.rt:312:9
+-- src/lib.rt:333:9
 returns : tie.Need-returns
 returns c = let a = c .before .before .before .before .before .before .before .args in rest-is (recordOf (now (a .s))) (a .n) (a .i) (c .before .before .before .before .before .record-at .result) true _ _ (c .before .before .before .before .before .record-at .ensures) (sym (c .if1 .taken) ∙ c .before .is-bad-queue .ensures ∙ ap (λ (x : Action). badQueue x (c .before .before .before .before .before .record-at .result .declared .held)) (c .before .before .action-of .ensures)) refl refl (c .before .before .before .before .before .before .before .pre)
 
--- src/lib.rt:314:8
+-- src/lib.rt:335:8
 next-differs-requires : tie.Need-next-differs-requires
 next-differs-requires c κs = search needs
 
--- src/lib.rt:315:9
+-- src/lib.rt:336:9
 returns-2 : tie.Need-returns-2
 returns-2 c = let a = c .before .before .before .before .before .before .before .before .before .args in rest-is (recordOf (now (a .s))) (a .n) (a .i) (c .before .before .before .before .before .before .before .record-at .result) false true _ (c .before .before .before .before .before .before .before .record-at .ensures) (sym (c .before .before .if1 .left) ∙ c .before .before .before .is-bad-queue .ensures ∙ ap (λ (x : Action). badQueue x (c .before .before .before .before .before .before .before .record-at .result .declared .held)) (c .before .before .before .before .action-of .ensures)) (sym (c .if2 .taken) ∙ c .before .next-differs .ensures) refl (c .before .before .before .before .before .before .before .before .before .pre)
 
--- src/lib.rt:317:8
+-- src/lib.rt:338:8
 target-differs-requires : tie.Need-target-differs-requires
 target-differs-requires c κs = queue-fine (recordOf (now (c .before .before .before .before .before .before .before .before .before .args .s))) (c .before .before .before .before .before .before .before .before .before .args .i) (c .before .before .before .before .before .before .before .record-at .result) _ (c .before .before .before .before .before .before .before .record-at .ensures) (c .before .before .before .before .action-of .ensures) (sym (c .before .before .before .is-bad-queue .ensures) ∙ c .before .before .if1 .left)
 
--- src/lib.rt:318:9
+-- src/lib.rt:339:9
 returns-3 : tie.Need-returns-3
 returns-3 c = let a = c .before .before .before .before .before .before .before .before .before .before .before .args in rest-is (recordOf (now (a .s))) (a .n) (a .i) (c .before .before .before .before .before .before .before .before .before .record-at .result) false false true (c .before .before .before .before .before .before .before .before .before .record-at .ensures) (sym (c .before .before .before .before .if1 .left) ∙ c .before .before .before .before .before .is-bad-queue .ensures ∙ ap (λ (x : Action). badQueue x (c .before .before .before .before .before .before .before .before .before .record-at .result .declared .held)) (c .before .before .before .before .before .before .action-of .ensures)) (sym (c .before .before .if2 .left) ∙ c .before .before .before .next-differs .ensures) (sym (c .if3 .taken) ∙ c .before .target-differs .ensures) (c .before .before .before .before .before .before .before .before .before .before .before .pre)
 
--- src/lib.rt:304:1
+-- src/lib.rt:325:1
 returns-4 : tie.Need-returns-4
 returns-4 c = let a = c .before .before .before .before .before .before .before .before .before .before .before .args in rest-is (recordOf (now (a .s))) (a .n) (a .i) (c .before .before .before .before .before .before .before .before .before .record-at .result) false false false (c .before .before .before .before .before .before .before .before .before .record-at .ensures) (sym (c .before .before .before .before .if1 .left) ∙ c .before .before .before .before .before .is-bad-queue .ensures ∙ ap (λ (x : Action). badQueue x (c .before .before .before .before .before .before .before .before .before .record-at .result .declared .held)) (c .before .before .before .before .before .before .action-of .ensures)) (sym (c .before .before .if2 .left) ∙ c .before .before .before .next-differs .ensures) (sym (c .if3 .left) ∙ c .before .target-differs .ensures) (c .before .before .before .before .before .before .before .before .before .before .before .pre)
 

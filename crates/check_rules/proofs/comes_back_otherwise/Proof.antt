@@ -13,39 +13,39 @@ use Rattle.check_rules.proofs.declares_otherwise.Reads as declares-othe
 use Rattle.check_rules.proofs.is_aimed.Reads as is-aimed-reads
 use Rattle.rules.proofs.record_at.Reads as record-at-reads
 
--- src/lib.rt:219:8
+-- src/lib.rt:220:8
 is-aimed-requires : tie.Need-is-aimed-requires
 is-aimed-requires c κs = search needs
 
--- src/lib.rt:220:42
+-- src/lib.rt:221:42
 add-record-at : tie.Need-add-record-at
 add-record-at c = let a = c .before .before .before .before .before .before .args in let h : a .g + a .back .rule .parameter ≤ count (now (a .s)) = comes-back (count (now (a .s))) (a .g + a .back .rule .parameter) _ (c .before .before .before .before .before .before .pre) (sym (c .before .before .is-aimed .ensures) ∙ c .before .if1 .taken) in omega arith
 
--- src/lib.rt:220:13
+-- src/lib.rt:221:13
 record-at-requires : tie.Need-record-at-requires
 record-at-requires c κs = search needs
 
--- src/lib.rt:221:13
+-- src/lib.rt:222:13
 record-at-requires-2 : tie.Need-record-at-requires-2
 record-at-requires-2 c κs = search needs
 
--- src/lib.rt:224:53
+-- src/lib.rt:228:13
 cast-declares-otherwise : tie.Need-cast-declares-otherwise
 cast-declares-otherwise c = search needs
 
--- src/lib.rt:224:74
+-- src/lib.rt:229:13
 cast-declares-otherwise-2 : tie.Need-cast-declares-otherwise-2
 cast-declares-otherwise-2 c = search needs
 
--- src/lib.rt:224:9
+-- src/lib.rt:225:9
 declares-otherwise-requires : tie.Need-declares-otherwise-requires
 declares-otherwise-requires c κs = search needs
 
--- src/lib.rt:224:9
+-- src/lib.rt:225:9
 returns : tie.Need-returns
 returns c = let a = c .before .before .before .before .before .before .before .before .before .before .before .before .before .args in c .declares-otherwise .ensures ∙ otherwise-is (recordOf (now (a .s))) (a .g + a .back .rule .parameter) (a .g) (a .back .declared .held) _ (c .before .before .before .before .before .before .record-at .result) (c .before .before .before .before .before .record-at2 .result) (sym (c .before .before .before .before .before .before .before .before .before .is-aimed .ensures) ∙ c .before .before .before .before .before .before .before .before .if1 .taken) (c .before .before .before .before .before .before .record-at .ensures) (c .before .before .before .before .before .record-at2 .ensures)
 
--- src/lib.rt:213:1
+-- src/lib.rt:214:1
 returns-2 : tie.Need-returns-2
 returns-2 c = aimed-elsewhere _ _ (sym (c .before .is-aimed .ensures) ∙ c .if1 .left)
 

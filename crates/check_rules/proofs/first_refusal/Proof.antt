@@ -46,20 +46,20 @@ Inv-rules s n i₀ found₀ i found = (i ≤ n) × (found ≡ Fine) × (firstOf 
 abbrev μ-rules : tie.MeasureT-rules
 μ-rules s n i₀ found₀ i found = n - i
 
--- src/lib.rt:356:5
+-- src/lib.rt:375:5
 rules-holds : tie.Need-rules-holds Inv-loop μ-loop Inv-loop2 μ-loop2 Inv-rules μ-rules
 rules-holds c = (omega arith, refl, unfold firstOf in refl)
 
--- src/lib.rt:357:9
+-- src/lib.rt:376:9
 add-i : tie.Need-add-i Inv-loop μ-loop Inv-loop2 μ-loop2 Inv-rules μ-rules
 add-i c = omega arith
 
--- src/lib.rt:358:13
+-- src/lib.rt:377:13
 record-at-requires :
     tie.Need-record-at-requires Inv-loop μ-loop Inv-loop2 μ-loop2 Inv-rules μ-rules
 record-at-requires c κs = search needs
 
--- src/lib.rt:360:9
+-- src/lib.rt:379:9
 check-record-requires :
     tie.Need-check-record-requires Inv-loop μ-loop Inv-loop2 μ-loop2 Inv-rules μ-rules
 check-record-requires c κs = search needs
@@ -67,50 +67,50 @@ check-record-requires c κs = search needs
 enum-told : tie.Need-enum-told Inv-loop μ-loop Inv-loop2 μ-loop2 Inv-rules μ-rules
 enum-told c = c .match .keys1
 
--- src/lib.rt:362:13
+-- src/lib.rt:381:13
 enum-told-2 : tie.Need-enum-told-2 Inv-loop μ-loop Inv-loop2 μ-loop2 Inv-rules μ-rules
 enum-told-2 c = c .match .keys2
 
--- src/lib.rt:364:22
+-- src/lib.rt:383:22
 action-of-requires :
     tie.Need-action-of-requires Inv-loop μ-loop Inv-loop2 μ-loop2 Inv-rules μ-rules
 action-of-requires c κs = search needs
 
--- src/lib.rt:364:12
+-- src/lib.rt:383:12
 is-return-requires :
     tie.Need-is-return-requires Inv-loop μ-loop Inv-loop2 μ-loop2 Inv-rules μ-rules
 is-return-requires c κs = search needs
 
--- src/lib.rt:366:13
+-- src/lib.rt:385:13
 loop-holds : tie.Need-loop-holds Inv-loop μ-loop Inv-loop2 μ-loop2 Inv-rules μ-rules
 loop-holds c = (omega arith, refl)
 
--- src/lib.rt:367:17
+-- src/lib.rt:386:17
 add-g : tie.Need-add-g Inv-loop μ-loop Inv-loop2 μ-loop2 Inv-rules μ-rules
 add-g c = omega arith
 
--- src/lib.rt:368:20
+-- src/lib.rt:387:20
 comes-back-nowhere-requires :
     tie.Need-comes-back-nowhere-requires Inv-loop μ-loop Inv-loop2 μ-loop2 Inv-rules μ-rules
 comes-back-nowhere-requires c κs = omega arith
 
--- src/lib.rt:366:13
+-- src/lib.rt:385:13
 loop-less : tie.Need-loop-less Inv-loop μ-loop Inv-loop2 μ-loop2 Inv-rules μ-rules
 loop-less c = omega arith
 
--- src/lib.rt:366:13
+-- src/lib.rt:385:13
 loop-again : tie.Need-loop-again Inv-loop μ-loop Inv-loop2 μ-loop2 Inv-rules μ-rules
 loop-again c = (omega arith, some-more (comesBackNowhere (now (c .before .before .before .before .before .before .before .before .before .before .before .before .before .before .before .args .s)) (count (now (c .before .before .before .before .before .before .before .before .before .before .before .before .before .before .before .args .s))) (c .before .before .before .before .before .before .before .before .before .before .before .record-at .result)) (c .before .before .before .loop .g) (c .before .before .before .loop .inv .1) (sym (c .before .comes-back-nowhere .ensures) ∙ c .if2 .left))
 
--- src/lib.rt:374:13
+-- src/lib.rt:393:13
 loop2-holds : tie.Need-loop2-holds Inv-loop μ-loop Inv-loop2 μ-loop2 Inv-rules μ-rules
 loop2-holds c = (omega arith, refl)
 
--- src/lib.rt:375:17
+-- src/lib.rt:394:17
 add-h : tie.Need-add-h Inv-loop μ-loop Inv-loop2 μ-loop2 Inv-rules μ-rules
 add-h c = omega arith
 
--- src/lib.rt:376:20
+-- src/lib.rt:395:20
 comes-back-otherwise-requires :
     tie.Need-comes-back-otherwise-requires Inv-loop μ-loop Inv-loop2 μ-loop2 Inv-rules μ-rules
 comes-back-otherwise-requires c κs =
@@ -119,11 +119,11 @@ comes-back-otherwise-requires c κs =
     let e : l .g ≡ count s = omega (arith, l .inv .0, c .before .before .loop-test .left) in
     some-false (comesBackNowhere s (count s) (c .before .before .before .before .before .before .before .before .before .before .before .record-at .result)) (count s) (rw e at (l .inv .1)) (c .before .loop2 .h + 1) (omega arith) (omega arith)
 
--- src/lib.rt:374:13
+-- src/lib.rt:393:13
 loop2-less : tie.Need-loop2-less Inv-loop μ-loop Inv-loop2 μ-loop2 Inv-rules μ-rules
 loop2-less c = omega arith
 
--- src/lib.rt:374:13
+-- src/lib.rt:393:13
 loop2-again : tie.Need-loop2-again Inv-loop μ-loop Inv-loop2 μ-loop2 Inv-rules μ-rules
 loop2-again c = (omega arith, some-more (comesBackOtherwise (now (c .before .before .before .before .before .before .before .before .before .before .before .before .before .before .before .before .before .args .s)) (c .before .before .before .before .before .before .before .before .before .before .before .before .before .record-at .result)) (c .before .before .before .loop2 .h) (c .before .before .before .loop2 .inv .1) (sym (c .before .comes-back-otherwise .ensures) ∙ c .if3 .left))
 
@@ -143,7 +143,7 @@ kept c =
     (λ w. no-return s i (own .result) (own .ensures) (ap isReturn (sym (c .before .before .action-of .ensures)) ∙ sym (c .before .is-return .ensures) ∙ w .left))
     (c .if1 .came)
 
--- src/lib.rt:382:9
+-- src/lib.rt:401:9
 check-rest-requires :
     tie.Need-check-rest-requires Inv-loop μ-loop Inv-loop2 μ-loop2 Inv-rules μ-rules
 check-rest-requires c κs = kept c .1
@@ -151,22 +151,22 @@ check-rest-requires c κs = kept c .1
 enum-told-3 : tie.Need-enum-told-3 Inv-loop μ-loop Inv-loop2 μ-loop2 Inv-rules μ-rules
 enum-told-3 c = c .match2 .keys1
 
--- src/lib.rt:356:5
+-- src/lib.rt:375:5
 rules-less : tie.Need-rules-less Inv-loop μ-loop Inv-loop2 μ-loop2 Inv-rules μ-rules
 rules-less c = omega arith
 
--- src/lib.rt:356:5
+-- src/lib.rt:375:5
 rules-again : tie.Need-rules-again Inv-loop μ-loop Inv-loop2 μ-loop2 Inv-rules μ-rules
 rules-again c =
     let s = now (c .before .before .before .before .before .before .before .before .before .before .before .before .before .before .args .s) in
     let i = c .before .before .before .before .before .before .before .before .before .before .before .before .rules .i in
     (omega arith, c .enum-told3 .given .1, one-more (ruleCheck s) i (c .before .before .before .before .before .before .before .before .before .before .before .before .rules .inv .2) (goes-on s (i + 1) (c .before .before .before .before .before .before .before .before .before .before .record-at .result) (c .before .before .before .before .before .before .before .before .before .before .record-at .ensures) (sym (c .before .before .before .before .before .before .before .before .check-record .ensures) ∙ c .before .before .before .before .before .before .enum-told .given .1) (kept (c .before .before .before) .0) ∙ sym (c .before .before .check-rest .ensures) ∙ c .enum-told3 .given .1))
 
--- src/lib.rt:384:13
+-- src/lib.rt:403:13
 enum-told-4 : tie.Need-enum-told-4 Inv-loop μ-loop Inv-loop2 μ-loop2 Inv-rules μ-rules
 enum-told-4 c = c .match2 .keys2
 
--- src/lib.rt:387:5
+-- src/lib.rt:406:5
 answer-of-requires :
     tie.Need-answer-of-requires Inv-loop μ-loop Inv-loop2 μ-loop2 Inv-rules μ-rules
 answer-of-requires c κs = search needs
@@ -198,7 +198,7 @@ out c =
     (goes-on s (i + 1) (w .1 .result) (w .1 .ensures) (sym (w .3 .ensures) ∙ w .5 .given .1) (kept j .0) ∙ sym (w .9 .ensures) ∙ w .11 .given .1) (w .12) (w .13 ∙ w .11 .given .1)))))
     (c .rules-test .came)
 
--- src/lib.rt:347:1
+-- src/lib.rt:369:1
 returns : tie.Need-returns Inv-loop μ-loop Inv-loop2 μ-loop2 Inv-rules μ-rules
 returns c = c .answer-of .ensures ∙ sym (out (c .before))
 

@@ -9,27 +9,27 @@ use Rattle.check_rules.proofs.is_bad_target.Lts as lts
 use Rattle.check_rules.proofs.has_goto_flag.Reads as has-goto-flag-reads
 use Rattle.check_rules.proofs.is_return.Reads as is-return-reads
 
--- src/lib.rt:140:8
+-- src/lib.rt:141:8
 has-goto-flag-requires : tie.Need-has-goto-flag-requires
 has-goto-flag-requires c κs = search needs
 
--- src/lib.rt:142:13
+-- src/lib.rt:143:13
 returns : tie.Need-returns
 returns c = target-behind (c .before .before .before .args .action) _ (c .before .before .before .args .i) (c .before .before .before .args .parameter) (sym (c .before .before .has-goto-flag .ensures) ∙ c .before .if1 .taken) (omega (arith, c .if2 .taken))
 
--- src/lib.rt:144:9
+-- src/lib.rt:145:9
 returns-2 : tie.Need-returns-2
 returns-2 c = target-ahead (c .before .before .before .args .action) (c .before .before .before .args .n) (c .before .before .before .args .i) (c .before .before .before .args .parameter) (sym (c .before .before .has-goto-flag .ensures) ∙ c .before .if1 .taken) (omega (arith, c .if2 .left))
 
--- src/lib.rt:146:8
+-- src/lib.rt:147:8
 is-return-requires : tie.Need-is-return-requires
 is-return-requires c κs = search needs
 
--- src/lib.rt:147:9
+-- src/lib.rt:148:9
 returns-3 : tie.Need-returns-3
 returns-3 c = target-of-return (c .before .before .before .before .args .action) _ _ (c .before .before .before .before .args .parameter) (sym (c .before .before .before .has-goto-flag .ensures) ∙ c .before .before .if1 .left) (sym (c .before .is-return .ensures) ∙ c .if3 .taken)
 
--- src/lib.rt:137:1
+-- src/lib.rt:138:1
 returns-4 : tie.Need-returns-4
 returns-4 c = search needs
 

@@ -12,43 +12,43 @@ use Rattle.check_rules.proofs.are_both_zero.Reads as are-both-zero-read
 use Rattle.check_rules.proofs.declares_otherwise.Reads as declares-otherwise-reads
 use Rattle.rules.proofs.record_at.Reads as record-at-reads
 
--- src/lib.rt:270:9
+-- src/lib.rt:276:9
 returns : tie.Need-returns
 returns c = no-next (recordOf (now (c .before .before .args .s))) (c .before .before .args .n) (c .before .before .args .i) (c .if1 .taken)
 
--- src/lib.rt:272:9
+-- src/lib.rt:278:9
 record-at-requires : tie.Need-record-at-requires
 record-at-requires c κs = search needs
 
--- src/lib.rt:274:8
+-- src/lib.rt:280:8
 are-both-zero-requires : tie.Need-are-both-zero-requires
 are-both-zero-requires c κs = search needs
 
--- src/lib.rt:275:9
+-- src/lib.rt:281:9
 returns-2 : tie.Need-returns-2
 returns-2 c = let a = c .before .before .before .before .before .before .args in next-is (recordOf (now (a .s))) (a .n) (a .i) (c .before .before .before .record-at .result) _ true (c .before .before .before .before .if1 .left) (c .before .before .before .record-at .ensures) (sym (c .if2 .taken) ∙ c .before .are-both-zero .ensures) refl
 
--- src/lib.rt:277:36
+-- src/lib.rt:283:36
 add-record-at : tie.Need-add-record-at
 add-record-at c = search needs
 
--- src/lib.rt:277:9
+-- src/lib.rt:283:9
 record-at-requires-2 : tie.Need-record-at-requires-2
 record-at-requires-2 c κs = search needs
 
--- src/lib.rt:280:46
+-- src/lib.rt:289:9
 cast-declares-otherwise : tie.Need-cast-declares-otherwise
 cast-declares-otherwise c = search needs
 
--- src/lib.rt:280:71
+-- src/lib.rt:290:9
 cast-declares-otherwise-2 : tie.Need-cast-declares-otherwise-2
 cast-declares-otherwise-2 c = search needs
 
--- src/lib.rt:280:5
+-- src/lib.rt:286:5
 declares-otherwise-requires : tie.Need-declares-otherwise-requires
 declares-otherwise-requires c κs = search needs
 
--- src/lib.rt:266:1
+-- src/lib.rt:272:1
 returns-3 : tie.Need-returns-3
 returns-3 c = let a = c .before .before .before .before .before .before .before .before .before .before .before .before .args in c .declares-otherwise .ensures ∙ next-is (recordOf (now (a .s))) (a .n) (a .i) (c .before .before .before .before .before .before .before .before .before .record-at .result) (c .before .before .before .before .before .record-at2 .result) false (c .before .before .before .before .before .before .before .before .before .before .if1 .left) (c .before .before .before .before .before .before .before .before .before .record-at .ensures) (sym (c .before .before .before .before .before .before .if2 .left) ∙ c .before .before .before .before .before .before .before .are-both-zero .ensures) (c .before .before .before .before .before .record-at2 .ensures)
 

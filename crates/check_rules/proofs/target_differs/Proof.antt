@@ -17,63 +17,63 @@ use Rattle.check_rules.proofs.is_gosub.Reads as is-gosub-reads
 use Rattle.rules.proofs.action_of.Reads as action-of-reads
 use Rattle.rules.proofs.record_at.Reads as record-at-reads
 
--- src/lib.rt:288:9
+-- src/lib.rt:299:9
 record-at-requires : tie.Need-record-at-requires
 record-at-requires c κs = search needs
 
--- src/lib.rt:291:9
+-- src/lib.rt:302:9
 action-of-requires : tie.Need-action-of-requires
 action-of-requires c κs = search needs
 
--- src/lib.rt:292:8
+-- src/lib.rt:303:8
 has-goto-flag-requires : tie.Need-has-goto-flag-requires
 has-goto-flag-requires c κs = search needs
 
--- src/lib.rt:293:13
+-- src/lib.rt:304:13
 record-at-requires-2 : tie.Need-record-at-requires-2
 record-at-requires-2 c κs = search needs
 
--- src/lib.rt:295:12
+-- src/lib.rt:306:12
 is-gosub-requires : tie.Need-is-gosub-requires
 is-gosub-requires c κs = search needs
 
--- src/lib.rt:296:62
+-- src/lib.rt:310:17
 cast-declares-otherwise : tie.Need-cast-declares-otherwise
 cast-declares-otherwise c = search needs
 
--- src/lib.rt:296:62
+-- src/lib.rt:310:17
 add-declares-otherwise : tie.Need-add-declares-otherwise
 add-declares-otherwise c = search needs
 
--- src/lib.rt:296:91
+-- src/lib.rt:311:17
 cast-declares-otherwise-2 : tie.Need-cast-declares-otherwise-2
 cast-declares-otherwise-2 c = search needs
 
--- src/lib.rt:296:13
+-- src/lib.rt:307:13
 declares-otherwise-requires : tie.Need-declares-otherwise-requires
 declares-otherwise-requires c κs = search needs
 
--- src/lib.rt:296:13
+-- src/lib.rt:307:13
 returns : tie.Need-returns
 returns c = let a = c .before .before .before .before .before .before .before .before .before .before .before .before .before .before .args in c .declares-otherwise .ensures ∙ gosub-target (recordOf (now (a .s))) (count (now (a .s))) (a .i) (c .before .before .before .before .before .before .before .before .before .before .before .before .record-at .result) (c .before .before .before .before .before .before .record-at2 .result) (c .before .before .before .before .before .before .before .before .before .before .before .before .record-at .ensures) (c .before .before .before .before .before .before .record-at2 .ensures) (ap gotoFlag (sym (c .before .before .before .before .before .before .before .before .before .action-of .ensures)) ∙ sym (c .before .before .before .before .before .before .before .before .has-goto-flag .ensures) ∙ c .before .before .before .before .before .before .before .if1 .taken) (ap isGosub (sym (c .before .before .before .before .before .before .before .before .before .action-of .ensures)) ∙ sym (c .before .before .before .before .is-gosub .ensures) ∙ c .before .before .before .if2 .taken)
 
--- src/lib.rt:298:57
+-- src/lib.rt:317:13
 cast-declares-otherwise-3 : tie.Need-cast-declares-otherwise-3
 cast-declares-otherwise-3 c = search needs
 
--- src/lib.rt:298:82
+-- src/lib.rt:318:13
 held-after-requires : tie.Need-held-after-requires
 held-after-requires c κs = held-fine (recordOf (now (c .before .before .before .before .before .before .before .before .before .before .before .before .args .s))) (c .before .before .before .before .before .before .before .before .before .before .before .before .args .i) (c .before .before .before .before .before .before .before .before .before .before .record-at .result) _ (c .before .before .before .before .before .before .before .before .before .before .record-at .ensures) (c .before .before .before .before .before .before .before .action-of .ensures) (c .before .before .before .before .before .before .before .before .before .before .before .before .pre)
 
--- src/lib.rt:298:9
+-- src/lib.rt:314:9
 declares-otherwise-requires-2 : tie.Need-declares-otherwise-requires-2
 declares-otherwise-requires-2 c κs = search needs
 
--- src/lib.rt:298:9
+-- src/lib.rt:314:9
 returns-2 : tie.Need-returns-2
 returns-2 c = let a = c .before .before .before .before .before .before .before .before .before .before .before .before .before .before .args in c .declares-otherwise2 .ensures ∙ ap (differs (c .before .before .before .before .before .before .record-at2 .result .declared) (c .before .before .before .before .before .before .before .before .before .before .before .before .record-at .result .declared .home) (c .before .before .before .before .before .before .before .before .before .before .before .before .record-at .result .declared .depth)) (c .before .held-after .ensures ∙ ap (λ (x : Action). heldAfter x (c .before .before .before .before .before .before .before .before .before .before .before .before .record-at .result .declared .held)) (c .before .before .before .before .before .before .before .before .before .action-of .ensures)) ∙ other-target (recordOf (now (a .s))) (count (now (a .s))) (a .i) (c .before .before .before .before .before .before .before .before .before .before .before .before .record-at .result) (c .before .before .before .before .before .before .record-at2 .result) (c .before .before .before .before .before .before .before .before .before .before .before .before .record-at .ensures) (c .before .before .before .before .before .before .record-at2 .ensures) (ap gotoFlag (sym (c .before .before .before .before .before .before .before .before .before .action-of .ensures)) ∙ sym (c .before .before .before .before .before .before .before .before .has-goto-flag .ensures) ∙ c .before .before .before .before .before .before .before .if1 .taken) (ap isGosub (sym (c .before .before .before .before .before .before .before .before .before .action-of .ensures)) ∙ sym (c .before .before .before .before .is-gosub .ensures) ∙ c .before .before .before .if2 .left)
 
--- src/lib.rt:284:1
+-- src/lib.rt:295:1
 returns-3 : tie.Need-returns-3
 returns-3 c = let a = c .before .before .before .before .before .before .before .args in no-target (recordOf (now (a .s))) (count (now (a .s))) (a .i) (c .before .before .before .before .before .record-at .result) (c .before .before .before .before .before .record-at .ensures) (ap gotoFlag (sym (c .before .before .action-of .ensures)) ∙ sym (c .before .has-goto-flag .ensures) ∙ c .if1 .left)
 

@@ -4,27 +4,27 @@ use borrow.Author.Needs.{needs}
 use Rattle.check_vectors.proofs.fill.Statement.{statement}
 use Rattle.check_vectors.proofs.fill.Tie as tie
 
--- src/main.rt:300:9
+-- src/main.rt:32:9
 returns : tie.Need-returns
 returns c = search needs
 
--- src/main.rt:302:16
+-- src/main.rt:34:16
 slice-relend-prefix-part : tie.Need-slice-relend-prefix-part
 slice-relend-prefix-part c = search needs
 
--- src/main.rt:302:9
+-- src/main.rt:34:9
 slice-aggregate-part : tie.Need-slice-aggregate-part
 slice-aggregate-part c = rw length-take (omega arith)
 
--- src/main.rt:303:9
+-- src/main.rt:35:9
 read-full-requires : tie.Need-read-full-requires
 read-full-requires c κs = search needs
 
--- src/main.rt:298:1
+-- src/main.rt:30:1
 same-length : tie.Need-same-length
 same-length c = search needs
 
--- src/main.rt:298:1
+-- src/main.rt:30:1
 returns-2 : tie.Need-returns-2
 returns-2 c = search needs
 

@@ -4,47 +4,47 @@ use borrow.Author.Needs.{needs}
 use Rattle.check_vectors.proofs.next.Statement.{statement}
 use Rattle.check_vectors.proofs.next.Tie as tie
 
--- src/main.rt:321:9
+-- src/main.rt:53:9
 length-requires : tie.Need-length-requires
 length-requires c κs = search needs
 
--- src/main.rt:322:9
+-- src/main.rt:54:9
 fill-requires : tie.Need-fill-requires
 fill-requires c κs = search needs
 
--- src/main.rt:323:9
+-- src/main.rt:55:9
 same-length : tie.Need-same-length
 same-length c = search needs
 
--- src/main.rt:323:9
+-- src/main.rt:55:9
 returns : tie.Need-returns
 returns c = search needs
 
--- src/main.rt:326:9
+-- src/main.rt:58:9
 same-length-2 : tie.Need-same-length-2
 same-length-2 c = search needs
 
--- src/main.rt:326:9
+-- src/main.rt:58:9
 returns-2 : tie.Need-returns-2
 returns-2 c = search needs
 
--- src/main.rt:328:14
+-- src/main.rt:60:14
 slice-reshare-prefix-rule-set : tie.Need-slice-reshare-prefix-rule-set
 slice-reshare-prefix-rule-set c = search needs
 
--- src/main.rt:328:14
+-- src/main.rt:60:14
 slice-aggregate-rule-set : tie.Need-slice-aggregate-rule-set
 slice-aggregate-rule-set c = rw length-take (omega arith)
 
--- src/main.rt:328:5
+-- src/main.rt:60:5
 rule-set-requires : tie.Need-rule-set-requires
 rule-set-requires c κs = search needs
 
--- src/main.rt:320:1
+-- src/main.rt:52:1
 same-length-3 : tie.Need-same-length-3
 same-length-3 c = search needs
 
--- src/main.rt:320:1
+-- src/main.rt:52:1
 returns-3 : tie.Need-returns-3
 returns-3 c = search needs
 
