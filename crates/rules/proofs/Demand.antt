@@ -53,7 +53,7 @@ unfolding after advance
 stays n rule at k a c items zero e = let z : 0 + k ≡ k = omega arith in rw z e
 stays n rule at k a c items (suc d) e = let z : suc d + k ≡ suc (d + k) = omega arith in rw z (rw (stays n rule at k a c items d e) refl)
 
-stays-later : (n : ℕ) (rule : ℕ → Rule) (at : ℕ → ℕ) (k l a c : ℕ) (items : List Item) → k ≤ l → after n rule at k ≡ ended a items c
+pub stays-later : (n : ℕ) (rule : ℕ → Rule) (at : ℕ → ℕ) (k l a c : ℕ) (items : List Item) → k ≤ l → after n rule at k ≡ ended a items c
     → after n rule at l ≡ ended a items c
 stays-later n rule at k l a c items h e = let z : l ≡ l - k + k = omega arith in rw z (stays n rule at k a c items (l - k) e)
 

@@ -16,26 +16,12 @@ use Rattle.rules.specs.declared.Action.the-variants.{Unknown, Ignore, No
 use Rattle.rules.specs.declared.RuleCheck.the-variants.{Fine}
 use Rattle.rules.specs.Opcodes.{actionOf, isReturn, isGosub, gotoFlag}
 use Rattle.rules.specs.Bits.{masked}
-use Rattle.rules.specs.Machine.{State, Outcome, running, ended, stuck, passes, goes, comesBack, drops, act, fails, step, advance, after}
+use Rattle.rules.specs.Machine.{State, Outcome, running, ended, stuck, passes, goes, comesBack, drops, act, fails, step, advance, after, Room}
 use Rattle.rules.specs.Checks.{some, differs, badTarget, aloneOf, badQueue, heldAfter, aims, leaves, landsWrong, escapes, nextDiffers, targetDiffers, returnDiffers, restOf}
 use Rattle.rules.specs.Demand.{bound, EndsAt}
 use Rattle.rules.proofs.Tests.{or-false, and-false, fine-either, some-false, differs-false}
 use Rattle.rules.proofs.Bits.{masked-zero}
 use Rattle.rules.proofs.Measure.{left, left-start, left-on, left-call, left-back, left-pos}
-
--- what an action takes, with d calls open and q items queued
-abbrev pub Room : Action → ℕ → ℕ → Type 0
-Room Unknown d q = ⊥
-Room Ignore d q = Unit {0}
-Room NoMatch d q = Unit {0}
-Room Count d q = q < 16
-Room CountPkt d q = q < 16
-Room Return d q = 1 ≤ d
-Room (Gosub t) d q = d < 4
-Room (Goto t) d q = Unit {0}
-Room (PushRule t) d q = q < 16
-Room (PushPkt t) d q = q < 16
-Room (PopTo t) d q = 1 ≤ q
 
 module _ (n : ℕ) (rule : ℕ → Rule) (declared : ℕ → Declared) where
   abbrev actOf : ℕ → Action
@@ -270,6 +256,13 @@ module _ (n : ℕ) (rule : ℕ → Rule) (declared : ℕ → Declared) where
         go stuck g = g
     advance-reached k (ended a is c) r = (r .0, omega arith, r .2)
     advance-reached k stuck r = r
+
+    -- where a Return comes back there is a rule
+    pub back-within : (i g : ℕ) (cs : List ℕ) (is : List Item) → Inv i (g ∷ cs) is → actOf i ≡ Return → g + rule i .parameter ≤ n
+    unfolding act
+    back-within i g cs is v e =
+        let o = ok i (v .low) (v .high) in
+        act-good Return i (g ∷ cs) is 0 v e (rw e at (o .homed)) (rw e at (o .ahead)) (rw e at (o .escaped)) (rw e at (o .queue)) (rw e at (o .target)) (rw e at (o .back)) .0 .high
 
     module _ (some-rule : 1 ≤ n) where
       pub reached : (k : ℕ) → Reached k (after n rule at k)

@@ -1,0 +1,5 @@
+pub mod Meters
+pub mod Follows
+pub mod Keys
+pub mod Results
+pub mod Cases

@@ -1,0 +1,51 @@
+use Rattle.engine.proofs.Keys.{by-packet, by-rule}
+use denote.Ref.{now}
+use mathlib.Core.Path.{sym, _∙_, ap}
+use Rattle.rules.specs.declared.RuleRecord.{RuleRecord}
+use Rattle.rules.specs.Records.{ruleOf}
+use Rattle.packet.specs.Attributes.{attribute}
+use Rattle.engine.specs.Meters.{queuesPacket}
+use borrow.Author.Needs.{needs}
+use Rattle.engine.proofs.item_of.Statement.{statement}
+use Rattle.engine.proofs.item_of.Tie as tie
+use Rattle.engine.proofs.item_of.Reads as reads
+use Rattle.engine.proofs.item_of.Lts as lts
+use Rattle.engine.proofs.queues_packet.Reads as queues-packet-reads
+use Rattle.packet.proofs.attribute.Reads as attribute-reads
+use Rattle.rules.proofs.action_of.Reads as action-of-reads
+use Rattle.rules.proofs.record_at.Reads as record-at-reads
+
+-- src/lib.rt:309:9
+record-at-requires : tie.Need-record-at-requires
+record-at-requires c κs = search needs
+
+-- src/lib.rt:311:9
+attribute-requires : tie.Need-attribute-requires
+attribute-requires c κs = search needs
+
+-- src/lib.rt:312:9
+action-of-requires : tie.Need-action-of-requires
+action-of-requires c κs = search needs
+
+-- src/lib.rt:313:8
+queues-packet-requires : tie.Need-queues-packet-requires
+queues-packet-requires c κs = search needs
+
+-- src/lib.rt:314:9
+returns : tie.Need-returns
+returns c = by-packet (ruleOf (now (c .before .before .before .before .before .before .before .before .args .s))) (attribute (c .before .before .before .before .before .before .before .before .args .a)) (c .before .before .before .before .before .before .before .before .args .i) _ (ap (λ (x : RuleRecord). x .rule) (c .before .before .before .before .before .before .record-at .ensures)) _ (c .before .before .before .before .attribute .ensures) (search needs) (sym (ap queuesPacket (c .before .before .before .action-of .ensures)) ∙ sym (c .before .before .queues-packet .ensures) ∙ c .before .if1 .taken)
+
+-- src/lib.rt:306:1
+returns-2 : tie.Need-returns-2
+returns-2 c = by-rule (ruleOf (now (c .before .before .before .before .before .before .before .args .s))) (attribute (c .before .before .before .before .before .before .before .args .a)) (c .before .before .before .before .before .before .before .args .i) _ (ap (λ (x : RuleRecord). x .rule) (c .before .before .before .before .before .record-at .ensures)) (sym (ap queuesPacket (c .before .before .action-of .ensures)) ∙ sym (c .before .queues-packet .ensures) ∙ c .if1 .left)
+
+pub item-of-spec : {M : Type 1} → statement M
+item-of-spec =
+    tie.close
+    (tie.spec
+    record-at-requires
+    attribute-requires
+    action-of-requires
+    queues-packet-requires
+    returns
+    returns-2)

@@ -1,0 +1,51 @@
+use Rattle.engine.proofs.Results.{accepted-result, refused-result}
+use denote.Ref.{now}
+use mathlib.Core.Path.{sym, _∙_}
+use borrow.Author.Needs.{needs}
+use Rattle.engine.proofs.run.Statement.{statement}
+use Rattle.engine.proofs.run.Tie as tie
+use Rattle.engine.proofs.run.Reads as reads
+use Rattle.engine.proofs.run.Lts as lts
+use Rattle.check_rules.proofs.check.Reads as check-reads
+use Rattle.engine.proofs.refused.Reads as refused-reads
+use Rattle.engine.proofs.run_accepted.Reads as run-accepted-reads
+
+-- src/lib.rt:430:11
+check-requires : tie.Need-check-requires
+check-requires c κs = search needs
+
+-- src/lib.rt:431:34
+enum-told : tie.Need-enum-told
+enum-told c = search needs
+
+-- src/lib.rt:431:34
+run-accepted-requires : tie.Need-run-accepted-requires
+run-accepted-requires c κs = sym (c .before .before .check .ensures) ∙ c .enum-told .given .1
+
+-- src/lib.rt:432:30
+enum-known-why : tie.Need-enum-known-why
+enum-known-why c = search needs
+
+-- src/lib.rt:432:41
+refused-requires : tie.Need-refused-requires
+refused-requires c κs = search needs
+
+-- src/lib.rt:427:1
+returns : tie.Need-returns
+returns c = c .run-accepted .ensures ∙ accepted-result (now (c .before .before .before .before .before .before .args .s)) (now (c .before .before .before .before .before .before .args .x)) (sym (c .before .before .before .check .ensures) ∙ c .before .enum-told .given .1)
+
+-- src/lib.rt:427:1
+returns-2 : tie.Need-returns-2
+returns-2 c = c .refused .ensures ∙ refused-result (now (c .before .before .before .before .before .before .before .args .s)) (now (c .before .before .before .before .before .before .before .args .x)) _ _ (sym (c .before .before .before .before .check .ensures) ∙ c .before .before .why .given .1)
+
+pub run-spec : {M : Type 1} → statement M
+run-spec =
+    tie.close
+    (tie.spec
+    check-requires
+    enum-told
+    run-accepted-requires
+    enum-known-why
+    refused-requires
+    returns
+    returns-2)

@@ -1,0 +1,44 @@
+use Rattle.engine.proofs.Results.{flow-result}
+use Rattle.engine.proofs.Follows.{final-held}
+use Rattle.packet.specs.Attributes.{attribute}
+use denote.Ref.{now}
+use mathlib.Core.Path.{refl}
+use borrow.Author.Needs.{needs}
+use Rattle.engine.proofs.run_flow.Statement.{statement}
+use Rattle.engine.proofs.run_flow.Tie as tie
+use Rattle.engine.proofs.run_flow.Reads as reads
+use Rattle.engine.proofs.run_flow.Lts as lts
+use Rattle.engine.proofs.answer_of.Reads as answer-of-reads
+use Rattle.engine.proofs.key_of.Reads as key-of-reads
+use Rattle.engine.proofs.run_machine.Reads as run-machine-reads
+use Rattle.packet.proofs.attributes_of.Reads as attributes-of-reads
+
+-- src/lib.rt:397:9
+attributes-of-requires : tie.Need-attributes-of-requires
+attributes-of-requires c κs = search needs
+
+-- src/lib.rt:398:9
+run-machine-requires : tie.Need-run-machine-requires
+run-machine-requires c κs = search needs
+
+-- src/lib.rt:399:9
+key-of-requires : tie.Need-key-of-requires
+key-of-requires c κs = final-held (now (c .before .before .before .before .args .s)) (c .before .before .before .before .pre) (attribute (c .before .attributes-of .result)) (c .run-machine .result) (c .run-machine .ensures)
+
+-- src/lib.rt:400:9
+answer-of-requires : tie.Need-answer-of-requires
+answer-of-requires c κs = search needs
+
+-- src/lib.rt:393:1
+returns : tie.Need-returns
+returns c = flow-result (now (c .before .before .before .before .before .before .args .s)) (now (c .before .before .before .before .before .before .args .x)) (c .before .before .before .before .before .before .args .f) (c .before .before .before .attributes-of .result) (c .before .before .before .attributes-of .ensures) (c .before .before .before .before .before .before .pre) (c .before .before .run-machine .result) (c .before .before .run-machine .ensures) (record { answer = c .answer-of .result; key = c .before .key-of .result; rules = c .before .before .run-machine .result .rules }) (c .answer-of .ensures) (c .before .key-of .ensures) refl
+
+pub run-flow-spec : {M : Type 1} → statement M
+run-flow-spec =
+    tie.close
+    (tie.spec
+    attributes-of-requires
+    run-machine-requires
+    key-of-requires
+    answer-of-requires
+    returns)

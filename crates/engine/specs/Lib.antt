@@ -1,0 +1,4 @@
+pub mod Meters
+pub mod Results
+pub mod Ends
+pub mod Cases
