@@ -1,0 +1,6 @@
+pub mod Digits
+pub mod Puts
+pub mod Records
+pub mod Captures
+pub mod Texts
+pub mod Example

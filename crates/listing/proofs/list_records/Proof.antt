@@ -1,0 +1,72 @@
+use borrow.Author.Needs.{needs}
+use mathlib.Core.Path.{_≡_, refl, sym, _∙_}
+use lib.ListN.{length}
+use Rattle.listing.specs.Captures.{listFrom, listAll}
+use Rattle.listing.proofs.Captures.{list-end, list-more, list-stop}
+use Rattle.listing.proofs.list_records.Statement.{statement}
+use Rattle.listing.proofs.list_records.Tie as tie
+
+abbrev Inv-loop : tie.InvT-loop
+Inv-loop d₀ s p₀ turns₀ d p turns = (length d ≡ length d₀) × (listFrom turns d s p ≡ listFrom turns₀ d₀ s p₀)
+
+abbrev μ-loop : tie.MeasureT-loop
+μ-loop d₀ s p₀ turns₀ d p turns = turns
+
+-- src/lib.rt:588:5
+loop-holds : tie.Need-loop-holds Inv-loop μ-loop
+loop-holds c = (refl, refl)
+
+-- src/lib.rt:589:9
+step-requires : tie.Need-step-requires Inv-loop μ-loop
+step-requires c κs = search needs
+
+-- src/lib.rt:591:12
+is-over-requires : tie.Need-is-over-requires Inv-loop μ-loop
+is-over-requires c κs = search needs
+
+-- src/lib.rt:592:13
+same-length : tie.Need-same-length Inv-loop μ-loop
+same-length c = search needs
+
+-- src/lib.rt:592:13
+returns : tie.Need-returns Inv-loop μ-loop
+unfolding listAll
+returns c = sym (list-stop _ _ _ _ _ _ (c .before .before .before .before .before .before .loop-test .taken) (c .before .before .before .before .step .ensures) (sym (c .before .is-over .ensures) ∙ c .if1 .taken)) ∙ c .before .before .before .before .before .before .before .loop .inv .1
+
+-- src/lib.rt:594:9
+sub-turns : tie.Need-sub-turns Inv-loop μ-loop
+sub-turns c = search needs
+
+-- src/lib.rt:588:5
+loop-less : tie.Need-loop-less Inv-loop μ-loop
+loop-less c = search needs
+
+-- src/lib.rt:588:5
+loop-again : tie.Need-loop-again Inv-loop μ-loop
+loop-again c = (search needs, sym (list-more _ _ _ _ _ _ (c .before .before .before .before .before .before .loop-test .taken) (c .before .before .before .before .step .ensures) (sym (c .before .is-over .ensures) ∙ c .if1 .left)) ∙ c .before .before .before .before .before .before .before .loop .inv .1)
+
+-- src/lib.rt:578:1
+same-length-2 : tie.Need-same-length-2 Inv-loop μ-loop
+same-length-2 c = search needs
+
+-- src/lib.rt:578:1
+returns-2 : tie.Need-returns-2 Inv-loop μ-loop
+unfolding listAll
+returns-2 c = sym (list-end _ _ _ _ (c .loop-test .left)) ∙ c .before .loop .inv .1
+
+pub list-records-spec : {M : Type 1} → statement M
+list-records-spec =
+    tie.close
+    (tie.spec
+    Inv-loop
+    μ-loop
+    loop-holds
+    step-requires
+    is-over-requires
+    same-length
+    returns
+    sub-turns
+    loop-less
+    loop-again
+    same-length-2
+    returns-2)

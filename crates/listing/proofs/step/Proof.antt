@@ -1,0 +1,65 @@
+use borrow.Author.Needs.{needs}
+use mathlib.Core.Path.{sym, _∙_}
+use Rattle.listing.proofs.Captures.{whole-at, step-short, step-wrong}
+use Rattle.listing.proofs.step.Statement.{statement}
+use Rattle.listing.proofs.step.Tie as tie
+
+-- src/lib.rt:559:11
+frame-at-requires : tie.Need-frame-at-requires
+frame-at-requires c κs = search needs
+
+-- src/lib.rt:560:36
+enum-told : tie.Need-enum-told
+enum-told c = search needs
+
+-- src/lib.rt:560:25
+stopped-requires : tie.Need-stopped-requires
+stopped-requires c κs = search needs
+
+-- src/lib.rt:561:36
+enum-told-2 : tie.Need-enum-told-2
+enum-told-2 c = search needs
+
+-- src/lib.rt:561:25
+stopped-requires-2 : tie.Need-stopped-requires-2
+stopped-requires-2 c κs = search needs
+
+-- src/lib.rt:562:22
+enum-known-n : tie.Need-enum-known-n
+enum-known-n c = search needs
+
+-- src/lib.rt:562:28
+list-whole-requires : tie.Need-list-whole-requires
+list-whole-requires c κs = let e = sym (c .before .before .before .before .frame-at .ensures) ∙ c .before .before .n .given .1 in (e, whole-at (c .before .before .before .before .before .before .before .args .s .now) (c .before .before .before .before .before .before .before .args .p .at) _ e)
+
+-- src/lib.rt:556:1
+returns : tie.Need-returns
+returns c = step-short _ _ (c .before .before .before .before .before .before .args .p) _ (c .stopped .ensures) (sym (c .before .before .before .frame-at .ensures) ∙ c .before .enum-told .given .1)
+
+-- src/lib.rt:556:1
+returns-2 : tie.Need-returns-2
+returns-2 c = step-wrong _ _ (c .before .before .before .before .before .before .args .p) _ (c .stopped2 .ensures) (sym (c .before .before .before .frame-at .ensures) ∙ c .before .enum-told2 .given .1)
+
+-- src/lib.rt:556:1
+same-length : tie.Need-same-length
+same-length c = search needs
+
+-- src/lib.rt:556:1
+returns-3 : tie.Need-returns-3
+returns-3 c = search needs
+
+pub step-spec : {M : Type 1} → statement M
+step-spec =
+    tie.close
+    (tie.spec
+    frame-at-requires
+    enum-told
+    stopped-requires
+    enum-told-2
+    stopped-requires-2
+    enum-known-n
+    list-whole-requires
+    returns
+    returns-2
+    same-length
+    returns-3)
