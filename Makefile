@@ -1,15 +1,31 @@
-.PHONY: help test check bench
+.PHONY: help run test check bench library
 
 help:
-	@echo "make test   prove everything from nothing, try the must-fail edits, run the programs (the gate)"
-	@echo "make check  prove what changed since it was last proved"
-	@echo "make bench  measure the reader against one in C (gcc), check and engine against the second program (cargo); valgrind counts instructions"
+	@echo "make run      build the lister and list a sample capture"
+	@echo "make test     prove everything from nothing, try the must-fail edits, run the programs and the tests (the gate)"
+	@echo "make check    prove what changed since it was last proved"
+	@echo "make library  the static library for C and Rust, target/staticlib/libexport.a"
+	@echo "make bench    measure the library against the second program (cargo), reader and lister against C (gcc); valgrind counts instructions"
+
+run:
+	@command -v rt > /dev/null || { echo "make run: rt is not on the path; it proves and builds the lister (the Rattle kit)"; exit 1; }
+	@echo "Proving and building the lister: a few minutes the first time."
+	@mkdir -p target && rt check lister > target/lister.log 2>&1 || { tail -n 20 target/lister.log; exit 1; }
+	@echo "The sample capture captures/every-form.capture:"
+	@echo
+	target/bin/lister < captures/every-form.capture
+	@echo
+	@echo "Your own:  target/bin/lister < FILE.capture"
+	@echo "A packet file of sFlow traffic (UDP port 6343):  captures/from_pcap FILE.pcap > FILE.capture"
 
 test:
 	bash .ci/run
 
 check:
 	rt check
+
+library:
+	rt staticlib export
 
 bench:
 	python3 bench/run

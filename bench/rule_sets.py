@@ -1,17 +1,12 @@
-#!/usr/bin/env python3
-"""Writes the inputs of crates/rules_bench into a folder: three rule sets of 255 rules that the check accepts, each with the same flow sample (an Ethernet
-header of 128 octets with IPv4 and TCP), each behind four words: the mode, how often, the rule set's length, the sample's length.
+"""Three rule sets of 255 rules that the check accepts, and a flow sample for them (an Ethernet header of 128 octets with IPv4 and TCP).
 
   straight     254 Gotos to the next rule, every third with a test that passes, the others with one that fails; then Count; 255 rules come to
   subroutines  five parts of 51 rules, the main part and four levels of subroutines, each part calling the next one six times; 79,305 rules come to
   returns      127 Gosubs to one subroutine of 126 Returns, so that the check looks at each Return with each Gosub; 128 rules come to
 
 In all of them the last rule tests Null, so that its value is free, and the key is zero at the end.
-
-  rule_sets.py FOLDER MODE TIMES
 """
 import struct
-import sys
 
 COUNT, RETURN, GOSUB, GOTO, PUSH_PKT_TO, POP_TO = 3, 5, 6, 10, 14, 16
 NULL = (0, 0, 0)
@@ -72,14 +67,6 @@ HEADER = (ETHERNET + IPV4 + TCP).ljust(128, b'\x5a')
 SAMPLE = words(1, 9, 3, 512, 4096, 0, 1, 2) + words(1, 1, 1518, 128) + HEADER + words(1) + words(1, 10, 0, 20, 0)
 
 
-def write(path, name, mode, times):
-    octets = b''.join(RULE_SETS[name]())
-    with open(path, 'wb') as out:
-        out.write(words(mode, times, len(octets), len(SAMPLE)) + octets + SAMPLE)
-
-
-if __name__ == '__main__':
-    if len(sys.argv) != 4:
-        sys.exit(__doc__)
-    for each in RULE_SETS:
-        write(f'{sys.argv[1]}/{each}', each, int(sys.argv[2]), int(sys.argv[3]))
+def octets(name):
+    """The octets of a rule set."""
+    return b''.join(RULE_SETS[name]())

@@ -1,175 +1,145 @@
-/* A hand-written reader of sFlow version 4 datagrams, for comparison. It takes the input of crates/reader_bench: four words, the mode
-   (1 reads, 2 goes over all samples with their values), how often, the datagram's length, 0; then the datagram. It prints a sum of what it read. */
-#include <stdint.h>
+/* Reads a datagram many times with the hand-written reader of datagram.h, and prints a sum of what it found, the same as that of `library ours`:
+     walk read TURNS FILE   the whole datagram accepted or refused
+     walk walk TURNS FILE   all values of all samples, taken while the datagram is read
+   Of packet data it gives the values of headers, of extended data those of switch entries: the inputs have no others. */
 #include <stdio.h>
 #include <stdlib.h>
 #include <string.h>
 
-struct input { const uint8_t *s; size_t n, at; };
+#include "datagram.h"
 
-static uint32_t be32(const uint8_t *p) {
-    return (uint32_t)p[0] << 24 | (uint32_t)p[1] << 16 | (uint32_t)p[2] << 8 | p[3];
+/* A sample's values. */
+struct values {
+    uint32_t words[7], extended, header[3];
+    size_t header_at;
+    uint32_t version, count;
+    uint64_t counters[37];
+};
+
+static uint64_t be64(const uint8_t *p) {
+    return (uint64_t)be32(p) << 32 | be32(p + 4);
 }
 
-/* Each reader answers 0, or the number of the refusal; in->at is then its place. */
-static int word(struct input *in, uint32_t *v) {
-    if (in->n - in->at < 4) return 1;
-    *v = be32(in->s + in->at);
-    in->at += 4;
+/* So many words, their check made already. */
+static void take_words(struct input *in, uint32_t *to, size_t count) {
+    for (size_t i = 0; i < count; i++) to[i] = be32(in->s + in->at + 4 * i);
+    in->at += 4 * count;
+}
+
+/* So many counters of 4 octets, then one of 8 if it is asked for. */
+static const uint8_t *take_counters(const uint8_t *p, uint64_t **to, size_t count, int wide) {
+    for (size_t i = 0; i < count; i++, p += 4) *(*to)++ = be32(p);
+    if (!wide) return p;
+    *(*to)++ = be64(p);
+    return p + 8;
+}
+
+/* The counters of a whole body, and how many there are. */
+static uint32_t counters_of(const uint8_t *p, uint32_t version, uint64_t *first) {
+    uint64_t *to = first;
+    if (version == 7) take_counters(take_counters(p, &to, 1, 1), &to, 4, 0);
+    else {
+        p = take_counters(p, &to, 2, 1);
+        p = take_counters(p, &to, 2, 1);
+        p = take_counters(p, &to, 6, 1);
+        p = take_counters(p, &to, 6, 0);
+        if (version == 2) take_counters(p, &to, 13, 0);
+        if (version == 3) take_counters(p, &to, 18, 0);
+        if (version == 5) {
+            static const size_t between[6] = {1, 1, 5, 1, 0, 0};
+            for (int i = 0; i < 6; i++) p = take_counters(p, &to, between[i], 1);
+        }
+    }
+    return (uint32_t)(to - first);
+}
+
+/* The packet data of a flow sample, with the values of a header. */
+static int packet_values(struct input *in, struct values *v) {
+    size_t at = in->at;
+    int r = packet(in);
+    if (r || be32(in->s + at) != 1) return r;
+    for (int i = 0; i < 3; i++) v->header[i] = be32(in->s + at + 4 + 4 * i);
+    v->header_at = at + 16;
     return 0;
 }
 
-static int skip(struct input *in, size_t octets) {
-    if (in->n - in->at < octets) return 1;
-    in->at += octets;
+/* An extended entry; adds the values of a switch. */
+static int extended_values(struct input *in, uint64_t *sum) {
+    size_t at = in->at;
+    int r = extended(in);
+    if (r || be32(in->s + at) != 1) return r;
+    for (int i = 0; i < 5; i++) *sum += be32(in->s + at + 4 * i);
     return 0;
 }
 
-static int octets(struct input *in, uint32_t length) {
-    size_t whole = ((size_t)length + 3) / 4 * 4;
-    if (in->n - in->at < whole) return 1;
-    for (size_t i = length; i < whole; i++)
-        if (in->s[in->at + i] != 0) { in->at += i; return 12; }
-    in->at += whole;
-    return 0;
-}
-
-static int string(struct input *in) {
-    uint32_t length;
-    int r = word(in, &length);
-    return r ? r : octets(in, length);
-}
-
-static int words(struct input *in) {
-    uint32_t count, v;
-    int r = word(in, &count);
-    while (!r && count-- > 0) r = word(in, &v);
+static int flow_values(struct input *in, struct values *v, uint64_t *sum) {
+    int r = 0;
+    if (in->n - in->at < 28) return skip_words(in, 7);
+    take_words(in, v->words, 7);
+    if ((r = packet_values(in, v)) || (r = word(in, &v->extended))) return r;
+    for (int i = 0; i < 7; i++) *sum += v->words[i];
+    *sum += 1 + v->extended + v->header[0] + v->header[1] + v->header[2] + v->header_at;
+    for (uint32_t left = v->extended; left > 0 && !r; left--) r = extended_values(in, sum);
     return r;
 }
 
-static int address(struct input *in, uint32_t *kind) {
+static int counter_values(struct input *in, struct values *v, uint64_t *sum) {
     size_t at = in->at;
-    int r = word(in, kind);
+    int r = counters(in);
     if (r) return r;
-    if (*kind == 1) return skip(in, 4);
-    if (*kind == 2) return skip(in, 16);
-    in->at = at;
-    return 3;
+    for (int i = 0; i < 4; i++) v->words[i] = be32(in->s + at + 4 * i);
+    v->count = counters_of(in->s + at + 16, v->words[3], v->counters);
+    for (int i = 0; i < 4; i++) *sum += v->words[i];
+    for (uint32_t i = 0; i < v->count; i++) *sum += v->counters[i];
+    *sum += v->count;
+    return 0;
 }
 
-static int header(struct input *in, uint64_t *sum) {
-    uint32_t protocol, frame, length;
+static int sample_values(struct input *in, uint64_t *sum) {
+    static struct values v;
     size_t at = in->at;
-    int r = word(in, &protocol);
-    if (r) return r;
-    if (protocol < 1 || protocol > 13) { in->at = at; return 6; }
-    if ((r = word(in, &frame))) return r;
-    at = in->at;
-    if ((r = word(in, &length))) return r;
-    if (length > 256) { in->at = at; return 7; }
-    *sum += protocol + frame + length;
-    return octets(in, length);
-}
-
-static int packet(struct input *in, uint64_t *sum) {
     uint32_t kind;
-    size_t at = in->at;
     int r = word(in, &kind);
     if (r) return r;
-    if (kind == 1) return header(in, sum);
-    if (kind == 2) return skip(in, 32);
-    if (kind == 3) return skip(in, 56);
-    in->at = at;
-    return 5;
-}
-
-static int gateway(struct input *in) {
-    uint32_t count, kind;
-    int r = skip(in, 12);
-    if (r || (r = word(in, &count))) return r;
-    while (count-- > 0) {
-        size_t at = in->at;
-        if ((r = word(in, &kind))) return r;
-        if (kind < 1 || kind > 2) { in->at = at; return 9; }
-        if ((r = words(in))) return r;
-    }
-    if ((r = words(in))) return r;
-    return skip(in, 4);
-}
-
-static int extended(struct input *in) {
-    uint32_t kind, v;
-    size_t at = in->at;
-    int r = word(in, &kind);
-    if (r) return r;
-    switch (kind) {
-    case 1: return skip(in, 16);
-    case 2: return (r = address(in, &v)) ? r : skip(in, 8);
-    case 3: return gateway(in);
-    case 4: return (r = string(in)) ? r : string(in);
-    case 5:
-        at = in->at;
-        if ((r = word(in, &v))) return r;
-        if (v < 1 || v > 2) { in->at = at; return 10; }
-        return string(in);
-    }
-    in->at = at;
-    return 8;
-}
-
-static int flow(struct input *in, uint64_t *sum) {
-    uint32_t v[7], count;
-    int r = 0;
-    for (int i = 0; i < 7 && !r; i++) r = word(in, &v[i]);
-    if (r || (r = packet(in, sum))) return r;
-    *sum += v[0] + v[1] + v[2] + v[3] + v[4] + v[5] + v[6];
-    if ((r = word(in, &count))) return r;
-    while (!r && count-- > 0) r = extended(in);
+    if (kind < 1 || kind > 2) { in->at = at; return 4; }
+    r = kind == 1 ? flow_values(in, &v, sum) : counter_values(in, &v, sum);
+    *sum += kind + at + (in->at - at);
     return r;
 }
 
-static int counters(struct input *in, uint64_t *sum) {
-    static const size_t body[8] = {0, 88, 140, 160, 88, 168, 88, 28};
-    uint32_t v[4];
-    int r = 0;
-    for (int i = 0; i < 3 && !r; i++) r = word(in, &v[i]);
-    size_t at = in->at;
-    if (r || (r = word(in, &v[3]))) return r;
-    if (v[3] < 1 || v[3] > 7) { in->at = at; return 11; }
-    *sum += v[0] + v[1] + v[2] + v[3];
-    return skip(in, body[v[3]]);
+static uint64_t of_head(const uint8_t *s, const struct head *h) {
+    uint64_t sum = h->kind + (uint64_t)h->sequence + h->uptime + h->count + h->first;
+    for (int i = 0; i < (h->kind == 1 ? 1 : 4); i++) sum += be32(s + 8 + 4 * i);
+    return sum;
 }
 
-static int datagram(const uint8_t *s, size_t n, uint64_t *sum) {
-    struct input input = {s, n, 0}, *in = &input;
-    uint32_t v, kind, sequence, uptime, count;
-    int r;
-    if (n > 65507) return 14;
-    if ((r = word(in, &v))) return r;
-    if (v != 4) return 2;
-    if ((r = address(in, &kind)) || (r = word(in, &sequence)) || (r = word(in, &uptime)) || (r = word(in, &count))) return r;
-    *sum += sequence + uptime + count;
-    while (count-- > 0) {
-        size_t at = in->at;
-        if ((r = word(in, &kind))) return r;
-        if (kind == 1) r = flow(in, sum);
-        else if (kind == 2) r = counters(in, sum);
-        else { in->at = at; r = 4; }
-        if (r) return r;
-    }
-    return in->at < n ? 13 : 0;
-}
-
-int main(void) {
-    static uint8_t buffer[65536 + 16];
-    size_t got = fread(buffer, 1, sizeof buffer, stdin);
-    if (got < 16) { fprintf(stderr, "the input is four words and a datagram\n"); return 1; }
-    uint32_t times = be32(buffer + 4), length = be32(buffer + 8);
-    if (got - 16 < length) { fprintf(stderr, "the datagram is cut short\n"); return 1; }
+/* What one turn finds; of a refused datagram the number and the place. */
+static uint64_t turn(const uint8_t *s, size_t n, int all) {
+    struct input in = {s, n, 0};
+    struct head head;
     uint64_t sum = 0;
-    for (uint32_t i = 0; i < times; i++) {
+    int r = all ? begin(&in, &head) : datagram(&in, &head);
+    for (uint32_t left = r || !all ? 0 : head.count; left > 0 && !r; left--) r = sample_values(&in, &sum);
+    if (!r && in.at < in.n) r = 13;
+    return r ? (uint64_t)r + in.at : sum + of_head(s, &head);
+}
+
+int main(int count, char **given) {
+    static uint8_t s[65536];
+    if (count != 4 || (strcmp(given[1], "read") && strcmp(given[1], "walk"))) {
+        fprintf(stderr, "usage: walk read|walk TURNS FILE\n");
+        return 1;
+    }
+    FILE *file = fopen(given[3], "rb");
+    if (!file) { perror(given[3]); return 1; }
+    size_t n = fread(s, 1, sizeof s, file);
+    uint64_t sum = 0;
+    int all = !strcmp(given[1], "walk");
+    unsigned long turns = strtoul(given[2], NULL, 10);
+    for (unsigned long i = 1; i <= turns; i++) {
+        s[15] = (uint8_t)i;
         __asm__ volatile("" ::: "memory");
-        if (datagram(buffer + 16, length, &sum)) { fprintf(stderr, "the datagram is refused\n"); return 1; }
+        sum += turn(s, n, all);
     }
     printf("%llu\n", (unsigned long long)sum);
     return 0;

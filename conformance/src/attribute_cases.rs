@@ -13,6 +13,7 @@ use crate::value::*;
 pub struct AttributeCase {
     /// What it is about.
     pub words: String,
+    /// The octets that should be a flow sample.
     pub octets: Vec<u8>,
     /// The values stated; nothing where the octets are no flow sample.
     pub stated: Option<Attributes>,

@@ -26,7 +26,7 @@ pub fn attribute_vectors(seed: u64) -> Vec<Vec<u8>> {
 }
 
 /// One in ten is nearly a flow sample, one in ten has a frame of anything.
-fn random_octets(random: &mut Random, turn: usize) -> Vec<u8> {
+pub fn random_octets(random: &mut Random, turn: usize) -> Vec<u8> {
     match turn % 10 {
         0 => no_flow_sample(random),
         1 => octets_of_flow(&FlowSample {

@@ -5,16 +5,27 @@ use crate::cursor::Cursor;
 use crate::sample_reader::read_sample;
 use crate::value::*;
 
+/// Null, whose test always succeeds.
 pub const NULL: u8 = 0;
+/// The interface that the packet came in by.
 pub const SOURCE_INTERFACE: u8 = 4;
+/// The source's kind of network address.
 pub const SOURCE_PEER_TYPE: u8 = 8;
+/// The source's network address.
 pub const SOURCE_PEER_ADDRESS: u8 = 9;
+/// The source's transport protocol.
 pub const SOURCE_TRANS_TYPE: u8 = 11;
+/// The source's port.
 pub const SOURCE_TRANS_ADDRESS: u8 = 12;
+/// The interface that the packet went out by.
 pub const DEST_INTERFACE: u8 = 14;
+/// The destination's kind of network address.
 pub const DEST_PEER_TYPE: u8 = 18;
+/// The destination's network address.
 pub const DEST_PEER_ADDRESS: u8 = 19;
+/// The destination's transport protocol.
 pub const DEST_TRANS_TYPE: u8 = 21;
+/// The destination's port.
 pub const DEST_TRANS_ADDRESS: u8 = 22;
 
 /// All attributes but Null, by their numbers.
@@ -36,41 +47,54 @@ pub fn is_attribute(number: u8) -> bool {
     number == NULL || VALUED.contains(&number)
 }
 
-/// Peer types.
+/// The peer type of IPv4.
 pub const PEER_IPV4: u32 = 1;
+/// The peer type of IPv6.
 pub const PEER_IPV6: u32 = 2;
 
-/// Header protocols that are looked into.
+/// The header protocol of Ethernet; it and the next are looked into.
 pub const ETHERNET: u32 = 1;
+/// The header protocol of IPv4.
 pub const IPV4: u32 = 11;
 
-/// The octets of an Ethernet header, and the type of IPv4 in its last two.
+/// The octets of an Ethernet header.
 pub const ETHERNET_OCTETS: usize = 14;
+/// The type of IPv4 in the last two octets of an Ethernet header.
 pub const ETHERNET_IPV4: [u8; 2] = [0x08, 0x00];
 
 /// The least octets of an IPv4 header.
 pub const LEAST_IPV4_OCTETS: usize = 20;
 
-/// IP protocols with ports.
+/// The IP protocol TCP, which has ports.
 pub const TCP: u8 = 6;
+/// The IP protocol UDP, which has ports.
 pub const UDP: u8 = 17;
 
 /// What a flow sample tells of its packet.
 #[derive(Clone, Copy, Debug, Default, PartialEq, Eq)]
 pub struct Attributes {
+    /// The sample's input.
     pub source_interface: u32,
+    /// The sample's output.
     pub dest_interface: u32,
+    /// What is known of the packet's addresses and ports.
     pub peers: Peers,
 }
 
 /// The peer and transport attributes; source and destination share types.
 #[derive(Clone, Copy, Debug, Default, PartialEq, Eq)]
 pub struct Peers {
+    /// 1 for IPv4, 2 for IPv6, otherwise 0.
     pub peer_type: u32,
+    /// The IPv4 source address, otherwise 0.
     pub source_address: u32,
+    /// The IPv4 destination address, otherwise 0.
     pub dest_address: u32,
+    /// The IP protocol.
     pub protocol: u32,
+    /// The source port.
     pub source_port: u32,
+    /// The destination port.
     pub dest_port: u32,
 }
 

@@ -8,10 +8,13 @@ use crate::value::*;
 /// One case; 10 comes twice, with a header of 257 octets and with 256.
 #[derive(Clone, Debug, PartialEq, Eq)]
 pub struct Case {
+    /// The number that the scope gives it.
     pub number: u32,
     /// What the scope says of it.
     pub words: &'static str,
+    /// The octets that are read.
     pub octets: Vec<u8>,
+    /// The answer that they get.
     pub stated: Stated,
 }
 

@@ -5,13 +5,15 @@ use std::fmt;
 use crate::attributes::is_attribute;
 use crate::rules::*;
 
-/// The greatest depth and the most items that a rule may declare.
+/// The greatest depth that a rule may declare.
 pub const MOST_CALLS: u8 = 4;
+/// The most items that a rule may declare as held.
 pub const MOST_ITEMS: u8 = 16;
 
 /// A refusal of a rule set, or of the octets given with it.
 #[derive(Clone, Copy, Debug, PartialEq, Eq)]
 pub struct RuleRefusal {
+    /// The refusal's number: 30 to 39 of the set, 18 of the octets with it.
     pub number: u32,
     /// The rule named; 0 where none is.
     pub rule: usize,

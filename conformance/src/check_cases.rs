@@ -11,6 +11,7 @@ use crate::successor_cases::successor_cases;
 pub struct CheckCase {
     /// What it is about.
     pub words: String,
+    /// The octets of the rule set.
     pub set: Vec<u8>,
     /// The refusal's number and the rule it names; nothing if accepted.
     pub stated: Option<(u32, usize)>,
@@ -44,10 +45,12 @@ fn of_octets(words: &str, set: Vec<u8>, stated: Option<(u32, usize)>) -> CheckCa
     }
 }
 
+/// The situation that these rules are accepted.
 pub fn accepted(words: &str, rules: &[Rule]) -> CheckCase {
     of_octets(words, octets_of_rules(rules), None)
 }
 
+/// The situation that these rules are refused, with the number and the rule named.
 pub fn refused(words: &str, rules: &[Rule], number: u32, rule: usize) -> CheckCase {
     of_octets(words, octets_of_rules(rules), Some((number, rule)))
 }
@@ -61,6 +64,7 @@ fn at_places(words: &str, rule: Rule, number: u32) -> Vec<CheckCase> {
     PLACES.map(at).into()
 }
 
+/// Null & 0 = 0: Ignore.
 pub fn ignore() -> Rule {
     Rule::new(IGNORE, 0)
 }

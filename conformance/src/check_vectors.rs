@@ -35,7 +35,7 @@ pub fn check_vectors(seed: u64) -> Vec<Vec<u8>> {
 }
 
 /// Any accepted set.
-fn any_set(random: &mut Random) -> Vec<Rule> {
+pub fn any_set(random: &mut Random) -> Vec<Rule> {
     let rules = any_length(random);
     set_of(random, rules)
 }

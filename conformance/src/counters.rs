@@ -12,7 +12,9 @@ pub enum Width {
 /// A counter's name in the RFC and its width.
 #[derive(Clone, Copy, Debug, PartialEq, Eq)]
 pub struct Field {
+    /// The name in the RFC.
     pub name: &'static str,
+    /// How many octets it has.
     pub width: Width,
 }
 
@@ -33,12 +35,19 @@ const fn hyper(name: &'static str) -> Field {
 /// The versions of counter bodies.
 #[derive(Clone, Copy, Debug, PartialEq, Eq)]
 pub enum CountersVersion {
+    /// The counters of any interface.
     Generic = 1,
+    /// Ethernet counters.
     Ethernet = 2,
+    /// Token ring counters.
     Tokenring = 3,
+    /// FDDI counters.
     Fddi = 4,
+    /// 100 BaseVG counters.
     Vg = 5,
+    /// WAN counters.
     Wan = 6,
+    /// VLAN counters.
     Vlan = 7,
 }
 

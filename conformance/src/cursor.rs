@@ -6,7 +6,9 @@ use crate::refusal::{Fault, Refusal};
 /// A stretch of the datagram.
 #[derive(Clone, Copy, Debug, Default, PartialEq, Eq)]
 pub struct Span {
+    /// The place of its first octet.
     pub offset: usize,
+    /// How many octets it has.
     pub length: usize,
 }
 
@@ -19,6 +21,7 @@ pub struct Cursor<'a> {
 }
 
 impl<'a> Cursor<'a> {
+    /// Begins at the first octet.
     pub fn new(octets: &'a [u8]) -> Cursor<'a> {
         Cursor {
             octets,
@@ -59,10 +62,12 @@ impl<'a> Cursor<'a> {
         octets.try_into().map_err(|_| missing)
     }
 
+    /// A word: an item of 4 octets.
     pub fn word(&mut self) -> Result<u32, Refusal> {
         Ok(u32::from_be_bytes(self.array()?))
     }
 
+    /// A hyper: an item of 8 octets.
     pub fn hyper(&mut self) -> Result<u64, Refusal> {
         Ok(u64::from_be_bytes(self.array()?))
     }

@@ -63,9 +63,14 @@ fn word_at(octets: &[u8], offset: usize) -> u32 {
 fn truncations(base: &Encoding, first_item: usize) -> Vec<Vec<u8>> {
     let items = base.items.iter().skip(first_item);
     items
-        .flat_map(item_cuts)
-        .map(|length| cut(&base.octets, length))
+        .flat_map(|item| item_truncations(base, item))
         .collect()
+}
+
+/// The cuts of one item.
+pub fn item_truncations(base: &Encoding, item: &Item) -> Vec<Vec<u8>> {
+    let cuts = item_cuts(item).into_iter();
+    cuts.map(|length| cut(&base.octets, length)).collect()
 }
 
 /// The lengths of a datagram that ends at the beginning of or in this item.
@@ -109,29 +114,31 @@ fn greatest(kind: ItemKind) -> Option<u32> {
     }
 }
 
-/// Each tested word with bad values and with another good one, also as the
-/// last octets of the datagram, whole or cut.
+/// Each tested word damaged.
 fn tested_words(base: &Encoding, first_item: usize) -> Vec<Vec<u8>> {
-    let mut all = Vec::new();
-    for item in base.items.iter().skip(first_item) {
-        let Some(greatest) = greatest(item.kind) else {
-            continue;
-        };
-        let good = word_at(&base.octets, item.offset);
-        let values = [
-            0,
-            greatest + 1,
-            u32::MAX,
-            good | 0x0100_0000,
-            good % greatest + 1,
-        ];
-        all.extend(values.map(|value| with_word(&base.octets, item.offset, value)));
-        let bad = with_word(&base.octets, item.offset, greatest + 1);
-        all.push(cut(&bad, item.offset + 4));
-        let bad = with_word(&base.octets, item.offset, u32::MAX);
-        all.push(cut(&bad, item.offset + 3));
-    }
-    all
+    let items = base.items.iter().skip(first_item);
+    items.flat_map(|item| tested_word(base, item)).collect()
+}
+
+/// A tested word with bad values and with another good one, also as the last
+/// octets of the datagram, whole or cut. Nothing for any other item.
+pub fn tested_word(base: &Encoding, item: &Item) -> Vec<Vec<u8>> {
+    let Some(greatest) = greatest(item.kind) else {
+        return Vec::new();
+    };
+    let good = word_at(&base.octets, item.offset);
+    let values = [
+        0,
+        greatest + 1,
+        u32::MAX,
+        good | 0x0100_0000,
+        good % greatest + 1,
+    ];
+    let changed = values.map(|value| with_word(&base.octets, item.offset, value));
+    let bad = with_word(&base.octets, item.offset, greatest + 1);
+    let worse = with_word(&base.octets, item.offset, u32::MAX);
+    let cuts = [cut(&bad, item.offset + 4), cut(&worse, item.offset + 3)];
+    changed.into_iter().chain(cuts).collect()
 }
 
 /// The body of one counters version behind each other version's number, and
@@ -147,45 +154,50 @@ fn other_counters_versions(base: &Encoding) -> Vec<Vec<u8>> {
         .collect()
 }
 
-/// Each count and length made huge, one too large or one too small.
+/// Each count and length damaged.
 fn counts_and_lengths(base: &Encoding) -> Vec<Vec<u8>> {
-    let mut all = Vec::new();
-    for item in &base.items {
-        let good = word_at(&base.octets, item.offset);
-        let mut values = match item.kind {
-            ItemKind::Count => vec![0],
-            ItemKind::HeaderLength => vec![255, 256, 257],
-            ItemKind::StringLength => vec![good.wrapping_add(4), u32::MAX - 3],
-            _ => continue,
-        };
-        values.extend([u32::MAX, u32::MAX - 2, 1 << 31]);
-        values.extend([good.wrapping_add(1), good.wrapping_sub(1)]);
-        all.extend(
-            values
-                .iter()
-                .map(|&value| with_word(&base.octets, item.offset, value)),
-        );
-        // A huge number with nothing behind it.
-        let huge = with_word(&base.octets, item.offset, u32::MAX);
-        all.push(cut(&huge, item.offset + 4));
-    }
-    all
+    let items = base.items.iter();
+    items.flat_map(|item| count_or_length(base, item)).collect()
 }
 
-/// Each padding octet made non-zero, alone, with all behind it, and with the
-/// datagram cut behind it before the padding's end.
+/// A count or length made huge, one too large or one too small. Nothing for
+/// any other item.
+pub fn count_or_length(base: &Encoding, item: &Item) -> Vec<Vec<u8>> {
+    let good = word_at(&base.octets, item.offset);
+    let mut values = match item.kind {
+        ItemKind::Count => vec![0],
+        ItemKind::HeaderLength => vec![255, 256, 257],
+        ItemKind::StringLength => vec![good.wrapping_add(4), u32::MAX - 3],
+        _ => return Vec::new(),
+    };
+    values.extend([u32::MAX, u32::MAX - 2, 1 << 31]);
+    values.extend([good.wrapping_add(1), good.wrapping_sub(1)]);
+    let changed = values
+        .iter()
+        .map(|&value| with_word(&base.octets, item.offset, value));
+    // A huge number with nothing behind it.
+    let huge = with_word(&base.octets, item.offset, u32::MAX);
+    changed.chain([cut(&huge, item.offset + 4)]).collect()
+}
+
+/// The padding of each string damaged.
 fn paddings(base: &Encoding) -> Vec<Vec<u8>> {
+    let items = base.items.iter();
+    items.flat_map(|item| padding(base, item)).collect()
+}
+
+/// Each padding octet of an item made non-zero, alone, with all behind it,
+/// and with the datagram cut behind it before the padding's end.
+pub fn padding(base: &Encoding, item: &Item) -> Vec<Vec<u8>> {
     let mut all = Vec::new();
-    for item in &base.items {
-        let end = item.offset + item.length;
-        for place in end - item.padding..end {
-            let one = with_octets(&base.octets, place..place + 1, 1);
-            let rest = with_octets(&base.octets, place..end, 0x80);
-            for length in place + 1..end {
-                all.push(cut(&one, length));
-            }
-            all.extend([one, rest]);
+    let end = item.offset + item.length;
+    for place in end - item.padding..end {
+        let one = with_octets(&base.octets, place..place + 1, 1);
+        let rest = with_octets(&base.octets, place..end, 0x80);
+        for length in place + 1..end {
+            all.push(cut(&one, length));
         }
+        all.extend([one, rest]);
     }
     all
 }
@@ -200,7 +212,7 @@ fn with_octets(octets: &[u8], places: std::ops::Range<usize>, value: u8) -> Vec<
 }
 
 /// One to five octets behind the end, zero and not, and a sample too many.
-fn trailing(base: &Encoding) -> Vec<Vec<u8>> {
+pub fn trailing(base: &Encoding) -> Vec<Vec<u8>> {
     let mut all = Vec::new();
     for count in 1..=5 {
         let value = if count % 2 == 0 { 0xff } else { 0 };
@@ -215,23 +227,34 @@ fn trailing(base: &Encoding) -> Vec<Vec<u8>> {
     all
 }
 
+/// Two bad tested words, one behind the other, for each such pair.
+fn double_faults(base: &Encoding, random: &mut Random) -> Vec<Vec<u8>> {
+    let tested = tested_items(base);
+    let pairs = tested.windows(2);
+    pairs.map(|pair| double_fault(base, pair, random)).collect()
+}
+
+/// Whether the item is a word whose value the reader tests.
+pub fn is_tested(item: &Item) -> bool {
+    greatest(item.kind).is_some()
+}
+
+/// The items whose value the reader tests.
+pub fn tested_items(base: &Encoding) -> Vec<Item> {
+    let items = base.items.iter().copied();
+    items.filter(|item| greatest(item.kind).is_some()).collect()
+}
+
 /// Two bad tested words and a cut somewhere behind the first: the first
 /// fault is the one to be named.
-fn double_faults(base: &Encoding, random: &mut Random) -> Vec<Vec<u8>> {
-    let tested: Vec<&Item> = base
-        .items
-        .iter()
-        .filter(|item| greatest(item.kind).is_some())
-        .collect();
-    let mut all = Vec::new();
-    for pair in tested.windows(2) {
-        let [first, second] = pair else { continue };
-        let both = with_word(&base.octets, first.offset, u32::MAX);
-        let both = with_word(&both, second.offset, 0);
-        let room = base.octets.len().saturating_sub(first.offset + 4);
-        all.push(cut(&both, first.offset + 4 + random.below(room)));
-    }
-    all
+pub fn double_fault(base: &Encoding, pair: &[Item], random: &mut Random) -> Vec<u8> {
+    let [first, second] = pair else {
+        return base.octets.clone();
+    };
+    let both = with_word(&base.octets, first.offset, u32::MAX);
+    let both = with_word(&both, second.offset, 0);
+    let room = base.octets.len().saturating_sub(first.offset + 4);
+    cut(&both, first.offset + 4 + random.below(room))
 }
 
 /// Headers of 255 to 260 octets, whole and with octets missing.
@@ -249,15 +272,19 @@ fn header_limits(random: &mut Random) -> Vec<Vec<u8>> {
 
 /// Random datagrams with one to three octets changed.
 fn scrambled(random: &mut Random) -> Vec<Vec<u8>> {
-    (0..50)
-        .map(|_| {
-            let mut octets = encode(&mixed(random)).octets;
-            for _ in 0..1 + random.below(3) {
-                let place = random.below(octets.len());
-                let value = random.hyper() as u8;
-                octets = with_octets(&octets, place..place + 1, value);
-            }
-            octets
-        })
-        .collect()
+    let one = |random: &mut Random| {
+        let octets = encode(&mixed(random)).octets;
+        scramble(random, octets)
+    };
+    (0..50).map(|_| one(random)).collect()
+}
+
+/// The octets with one to three of them changed.
+pub fn scramble(random: &mut Random, mut octets: Vec<u8>) -> Vec<u8> {
+    for _ in 0..1 + random.below(3) {
+        let place = random.below(octets.len());
+        let value = random.hyper() as u8;
+        octets = with_octets(&octets, place..place + 1, value);
+    }
+    octets
 }

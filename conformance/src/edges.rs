@@ -1,6 +1,6 @@
 //! Datagrams whose length is the point: very short and very long ones.
 
-use crate::encoder::encode;
+use crate::encoder::{encode, Encoding};
 use crate::grammar::MAX_DATAGRAM_SIZE;
 use crate::parts::{flow, header, url};
 use crate::random::Random;
@@ -43,9 +43,14 @@ fn long(random: &mut Random) -> Vec<Vec<u8>> {
     vec![accepted, trailing, unpadded, too_long]
 }
 
+/// The octets of a well-formed datagram of this length.
+pub fn of_length(random: &mut Random, length: usize) -> Vec<u8> {
+    encoding_of_length(random, length).octets
+}
+
 /// A well-formed datagram of this length, a multiple of 4, which ends with a
 /// URL that has one octet of padding.
-pub fn of_length(random: &mut Random, length: usize) -> Vec<u8> {
+pub fn encoding_of_length(random: &mut Random, length: usize) -> Encoding {
     let data = header(random, 1, 255);
     let frame = |random: &mut Random, text: &[u8]| {
         let entries = vec![url(UrlDirection::Src, text)];
@@ -55,9 +60,8 @@ pub fn of_length(random: &mut Random, length: usize) -> Vec<u8> {
             uptime: 1000,
             samples: vec![flow(random, data.clone(), entries)],
         })
-        .octets
     };
-    let without_text = frame(random, &[]).len();
+    let without_text = frame(random, &[]).octets.len();
     let text = random.octets(length.saturating_sub(without_text + 1));
     frame(random, &text)
 }

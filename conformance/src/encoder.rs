@@ -12,22 +12,37 @@ use crate::value::*;
 #[derive(Clone, Copy, Debug, PartialEq, Eq, PartialOrd, Ord)]
 pub enum ItemKind {
     // Words whose value the reader tests.
+    /// The datagram's version.
     Version,
+    /// The type of an agent address or next hop.
     AddressType,
+    /// A sample's type.
     SampleType,
+    /// The type of packet data.
     PacketDataType,
+    /// The protocol of a sampled header.
     HeaderProtocol,
+    /// The type of an entry of extended data.
     ExtendedType,
+    /// The type of a path segment.
     SegmentType,
+    /// The direction of a URL.
     UrlDirection,
+    /// The version of a counter body.
     CountersVersion,
     // Words that say how much follows.
+    /// The number of entries of a list.
     Count,
+    /// The length of a sampled header, which is limited.
     HeaderLength,
+    /// The length of any other string.
     StringLength,
     // Items with free values.
+    /// A word with any value.
     Word,
+    /// A hyper with any value.
     Hyper,
+    /// The octets of an address.
     AddressOctets,
     /// A string's octets with their padding.
     StringOctets,
@@ -36,7 +51,9 @@ pub enum ItemKind {
 /// One item of the encoded octets.
 #[derive(Clone, Copy, Debug, PartialEq, Eq)]
 pub struct Item {
+    /// What the item is for.
     pub kind: ItemKind,
+    /// The place of its first octet.
     pub offset: usize,
     /// The item's octets, a string's padding included.
     pub length: usize,
@@ -47,7 +64,9 @@ pub struct Item {
 /// A datagram's octets and their items from left to right.
 #[derive(Clone, Debug, Default, PartialEq, Eq)]
 pub struct Encoding {
+    /// All octets.
     pub octets: Vec<u8>,
+    /// The items that they are made of.
     pub items: Vec<Item>,
 }
 
@@ -68,6 +87,20 @@ pub fn encode(datagram: &Datagram) -> Encoding {
 pub fn encode_sample(sample: &Sample) -> Encoding {
     let mut out = Encoding::default();
     out.sample(sample);
+    out
+}
+
+/// Encodes packet data, from their type word on.
+pub fn encode_packet_data(packet_data: &PacketData) -> Encoding {
+    let mut out = Encoding::default();
+    out.packet_data(packet_data);
+    out
+}
+
+/// Encodes one entry of extended data, from its type word on.
+pub fn encode_extended_data(entry: &ExtendedData) -> Encoding {
+    let mut out = Encoding::default();
+    out.extended_data(entry);
     out
 }
 
@@ -142,14 +175,18 @@ impl Encoding {
             flow.input,
             flow.output,
         ]);
-        match &flow.packet_data {
-            PacketData::Header(header) => self.header(header),
-            PacketData::Ipv4(ipv4) => self.ipv4(ipv4),
-            PacketData::Ipv6(ipv6) => self.ipv6(ipv6),
-        }
+        self.packet_data(&flow.packet_data);
         self.count(flow.extended_data.len());
         for entry in &flow.extended_data {
             self.extended_data(entry);
+        }
+    }
+
+    fn packet_data(&mut self, packet_data: &PacketData) {
+        match packet_data {
+            PacketData::Header(header) => self.header(header),
+            PacketData::Ipv4(ipv4) => self.ipv4(ipv4),
+            PacketData::Ipv6(ipv6) => self.ipv6(ipv6),
         }
     }
 

@@ -8,18 +8,23 @@ use crate::machine::{Answer, Item, Machine};
 /// An attribute's entry in the key.
 #[derive(Clone, Copy, Debug, Default, PartialEq, Eq)]
 pub struct Entry {
+    /// The mask that the attribute was taken with.
     pub mask: u32,
+    /// The masked value.
     pub value: u32,
 }
 
 /// The flow key: an entry for each attribute but Null, by their numbers.
 pub type Key = [Entry; 10];
 
+/// What a run comes to.
 #[derive(Clone, Copy, Debug, PartialEq, Eq)]
 pub struct Outcome {
+    /// How the run ended.
     pub answer: Answer,
     /// The number of rules come to.
     pub rules: u64,
+    /// The flow key; all zero unless the packet was counted.
     pub key: Key,
 }
 

@@ -14,8 +14,11 @@ use crate::successor_cases::several_gosubs;
 pub struct EngineCase {
     /// What it is about.
     pub words: String,
+    /// The octets of the rule set.
     pub set: Vec<u8>,
+    /// The octets that should be a flow sample.
     pub sample: Vec<u8>,
+    /// What the papers state for them.
     pub stated: Stated,
 }
 

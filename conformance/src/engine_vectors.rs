@@ -16,7 +16,9 @@ use crate::value::FlowSample;
 /// A rule set and the octets of a sample.
 #[derive(Clone, Debug, PartialEq, Eq)]
 pub struct Pair {
+    /// The octets of the rule set, right or wrong.
     pub set: Vec<u8>,
+    /// The octets that should be a flow sample.
     pub sample: Vec<u8>,
 }
 
@@ -40,7 +42,7 @@ fn pair(set: Vec<u8>, sample: Vec<u8>) -> Pair {
 
 /// A random set with two samples that its tests are made for and one that
 /// they are not; now and then near misses, and octets that are no sample.
-fn pairs_of_one_set(random: &mut Random, turn: usize) -> Vec<Pair> {
+pub fn pairs_of_one_set(random: &mut Random, turn: usize) -> Vec<Pair> {
     let flows: Vec<FlowSample> = (0..3).map(|_| flow_sample(random)).collect();
     let packets: Vec<Attributes> = flows.iter().take(2).map(attributes).collect();
     let rules = any_length(random);

@@ -157,7 +157,7 @@ fn other_extended_data(random: &mut Random) -> Vec<Datagram> {
 }
 
 /// One entry of each extended kind, the router with both address types.
-fn every_extended_kind(random: &mut Random) -> Vec<ExtendedData> {
+pub fn every_extended_kind(random: &mut Random) -> Vec<ExtendedData> {
     let short = Address::IpV4(random.array());
     let long = Address::IpV6(random.array());
     vec![

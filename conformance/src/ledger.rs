@@ -37,8 +37,11 @@ impl LedgerFault {
 /// octets; whether two are one source says `same_source`.
 #[derive(Clone, Copy, Debug, Default, PartialEq, Eq)]
 pub struct Source {
+    /// 1 for IPv4; any other compares all octets.
     pub address_type: u32,
+    /// For type 1 only the first 4 count.
     pub address: [u8; 16],
+    /// The source id.
     pub id: u32,
 }
 
@@ -63,21 +66,28 @@ impl Source {
 /// What the ledger takes from a flow sample and its datagram.
 #[derive(Clone, Copy, Debug, Default, PartialEq, Eq)]
 pub struct SampleNumbers {
+    /// Where the sample comes from.
     pub source: Source,
+    /// The sample's sequence number.
     pub sequence: u32,
+    /// The sample's pool.
     pub pool: u32,
 }
 
 /// A row. What a free row holds beside `used` has no meaning.
 #[derive(Clone, Copy, Debug, Default, PartialEq, Eq)]
 pub struct Row {
+    /// Whether the row belongs to a source.
     pub used: bool,
+    /// The source it belongs to.
     pub source: Source,
     /// The kept sequence number.
     pub sequence: u32,
     /// The kept sample pool.
     pub pool: u32,
+    /// The samples lost so far, modulo 2^64.
     pub lost_total: u64,
+    /// The growth of the pool so far, modulo 2^64.
     pub pool_total: u64,
 }
 
@@ -103,6 +113,7 @@ impl Row {
 /// The table; all rows are free at first.
 #[derive(Clone, Debug, PartialEq, Eq)]
 pub struct Table {
+    /// The rows by their number.
     pub rows: [Row; ROWS],
 }
 

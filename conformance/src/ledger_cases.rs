@@ -9,6 +9,7 @@ use crate::ledger_records::*;
 pub struct Situation {
     /// What it is about.
     pub words: &'static str,
+    /// The operations in their order.
     pub records: Vec<Record>,
     /// The answers to its samples, in their order; 0 is entered.
     pub stated: Vec<u32>,

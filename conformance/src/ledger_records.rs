@@ -11,10 +11,15 @@ pub type Record = [u32; 16];
 /// The octets of a record.
 pub const RECORD_OCTETS: usize = 64;
 
+/// Frees all rows.
 pub const EMPTY: u32 = 0;
+/// Gives a row any contents.
 pub const SET: u32 = 1;
+/// Enters a sample in the table.
 pub const ENTER: u32 = 2;
+/// Lends a row for a sample.
 pub const LEND: u32 = 3;
+/// Shows all rows.
 pub const SHOW: u32 = 4;
 
 /// A record of which only the operation is looked at.

@@ -19,6 +19,7 @@ pub struct Mix {
     pub free: usize,
     /// Of 8 samples, those that come with a lent row.
     pub lends: usize,
+    /// The blocks of the run.
     pub blocks: usize,
 }
 
@@ -104,7 +105,7 @@ pub fn random_records(seed: u64) -> Vec<Record> {
 }
 
 /// The records of a run, from an emptied table on.
-fn run(random: &mut Random, mix: &Mix) -> Vec<Record> {
+pub fn run(random: &mut Random, mix: &Mix) -> Vec<Record> {
     let sources = sources(random, mix.sources);
     let mut run = Run {
         random,

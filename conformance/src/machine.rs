@@ -8,29 +8,39 @@ use crate::rules::*;
 /// How a run ends; the discriminant is the opcode of the same name.
 #[derive(Clone, Copy, Debug, PartialEq, Eq, PartialOrd, Ord)]
 pub enum Answer {
+    /// The packet is not counted.
     Ignore = 1,
+    /// No rule matched the packet.
     NoMatch = 2,
+    /// The packet is counted under the rule's value.
     Count = 3,
+    /// The packet is counted under its own masked value.
     CountPkt = 4,
 }
 
 /// An entry of the pattern queue.
 #[derive(Clone, Copy, Debug, PartialEq, Eq)]
 pub struct Item {
+    /// The attribute that it is for.
     pub attribute: u8,
+    /// The rule's mask.
     pub mask: u32,
+    /// The rule's value, or the packet's under the mask.
     pub value: u32,
 }
 
 /// What one rule leads to.
 #[derive(Clone, Copy, Debug, PartialEq, Eq)]
 pub enum Step {
+    /// Another rule comes next.
     Goes,
+    /// The run ends with this answer.
     Ends(Answer),
     /// There is no answer.
     Stuck,
 }
 
+/// The machine between two rules.
 #[derive(Clone, Debug)]
 pub struct Machine<'a> {
     rules: &'a [Rule],
@@ -48,6 +58,7 @@ pub struct Machine<'a> {
 }
 
 impl<'a> Machine<'a> {
+    /// The machine before rule 1.
     pub fn new(rules: &'a [Rule], attributes: Attributes) -> Machine<'a> {
         Machine {
             rules,

@@ -4,14 +4,18 @@ use crate::attributes::{ETHERNET, ETHERNET_IPV4, ETHERNET_OCTETS, IPV4};
 use crate::encoder::encode_sample;
 use crate::value::*;
 
-/// The addresses and ports of the packets made here.
+/// The source address of the packets made here.
 pub const SOURCE: u32 = 0x0a01_0203;
+/// The destination address of the packets made here.
 pub const DEST: u32 = 0xc0a8_fe05;
+/// Their source port.
 pub const SOURCE_PORT: u32 = 0x1234;
+/// Their destination port.
 pub const DEST_PORT: u32 = 0xfedc;
 
-/// The interfaces of the samples made here.
+/// The input of the samples made here.
 pub const INPUT: u32 = 0x8000_0007;
+/// The output of the samples made here.
 pub const OUTPUT: u32 = 0x0000_0102;
 
 /// What an IPv4 packet's first octets are like.
@@ -21,6 +25,7 @@ pub struct Ipv4Form {
     pub version: u8,
     /// The header length in its nibble, in words.
     pub words: u8,
+    /// The IP protocol.
     pub protocol: u8,
     /// The octets behind the header.
     pub behind: usize,

@@ -16,7 +16,7 @@ pub fn datagram(random: &mut Random, samples: Vec<Sample>) -> Datagram {
 }
 
 /// A random address of either type.
-fn address(random: &mut Random) -> Address {
+pub fn address(random: &mut Random) -> Address {
     if random.below(2) == 0 {
         Address::IpV4(random.array())
     } else {
@@ -52,6 +52,7 @@ pub fn header(random: &mut Random, protocol: u32, length: usize) -> PacketData {
     })
 }
 
+/// IPv4 data with random numbers.
 pub fn ipv4(random: &mut Random) -> PacketData {
     PacketData::Ipv4(SampledIpv4 {
         length: random.word(),
@@ -65,6 +66,7 @@ pub fn ipv4(random: &mut Random) -> PacketData {
     })
 }
 
+/// IPv6 data with random numbers.
 pub fn ipv6(random: &mut Random) -> PacketData {
     PacketData::Ipv6(SampledIpv6 {
         length: random.word(),
@@ -78,6 +80,7 @@ pub fn ipv6(random: &mut Random) -> PacketData {
     })
 }
 
+/// Switch data with random numbers.
 pub fn switch(random: &mut Random) -> ExtendedData {
     ExtendedData::Switch(ExtendedSwitch {
         src_vlan: random.word(),
@@ -87,6 +90,7 @@ pub fn switch(random: &mut Random) -> ExtendedData {
     })
 }
 
+/// Router data with this next hop.
 pub fn router(random: &mut Random, nexthop: Address) -> ExtendedData {
     ExtendedData::Router(ExtendedRouter {
         nexthop,
@@ -111,7 +115,7 @@ pub fn gateway(random: &mut Random, segments: &[usize], communities: usize) -> E
 }
 
 /// A path segment of either type with so many words.
-fn segment(random: &mut Random, length: usize) -> AsPath {
+pub fn segment(random: &mut Random, length: usize) -> AsPath {
     let numbers = random.words(length);
     if random.below(2) == 0 {
         AsPath::AsSet(numbers)
@@ -120,6 +124,7 @@ fn segment(random: &mut Random, length: usize) -> AsPath {
     }
 }
 
+/// User data with these names.
 pub fn user(src_user: &[u8], dst_user: &[u8]) -> ExtendedData {
     ExtendedData::User(ExtendedUser {
         src_user: src_user.to_vec(),
@@ -127,6 +132,7 @@ pub fn user(src_user: &[u8], dst_user: &[u8]) -> ExtendedData {
     })
 }
 
+/// URL data with this text.
 pub fn url(direction: UrlDirection, url: &[u8]) -> ExtendedData {
     ExtendedData::Url(ExtendedUrl {
         direction,
@@ -165,7 +171,7 @@ pub fn mixed(random: &mut Random) -> Datagram {
 }
 
 /// A random sample of either kind.
-fn sample(random: &mut Random) -> Sample {
+pub fn sample(random: &mut Random) -> Sample {
     if random.below(3) == 0 {
         let turn = random.below(CountersVersion::ALL.len());
         let version = CountersVersion::ALL.into_iter().nth(turn);
@@ -191,7 +197,7 @@ pub fn packet_data(random: &mut Random) -> PacketData {
 }
 
 /// Random extended data of any kind.
-fn extended_data(random: &mut Random) -> ExtendedData {
+pub fn extended_data(random: &mut Random) -> ExtendedData {
     match random.below(5) {
         0 => switch(random),
         1 => {

@@ -4,11 +4,13 @@
 /// Words that often show mistakes at the ends of a range.
 const EDGE_WORDS: [u32; 6] = [0, 1, 0x7fff_ffff, 0x8000_0000, 0xffff_fffe, 0xffff_ffff];
 
+/// The source and how far it has come.
 pub struct Random {
     state: u64,
 }
 
 impl Random {
+    /// The source that begins with this seed.
     pub fn new(seed: u64) -> Random {
         Random { state: seed }
     }

@@ -9,6 +9,7 @@ use crate::value::{Address, Datagram, Sample};
 /// An accepted datagram: its values and where they lie.
 #[derive(Clone, Debug, PartialEq, Eq)]
 pub struct Reading {
+    /// The values.
     pub datagram: Datagram,
     /// The offset behind the samples' count word.
     pub first_sample: usize,

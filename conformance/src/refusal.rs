@@ -45,12 +45,14 @@ impl Fault {
 /// A refusal of the reader.
 #[derive(Clone, Copy, Debug, PartialEq, Eq)]
 pub struct Refusal {
+    /// What is wrong.
     pub fault: Fault,
     /// The offset in the datagram of the first bad item.
     pub place: usize,
 }
 
 impl Refusal {
+    /// The refusal of this fault at this place.
     pub fn new(fault: Fault, place: usize) -> Refusal {
         Refusal { fault, place }
     }

@@ -26,6 +26,7 @@ pub struct Plan {
 pub struct Part {
     /// The number of its first rule; 0 before it has one.
     pub first: usize,
+    /// The open calls of its rules.
     pub depth: u8,
     /// The items held by its first rule.
     entry: u8,
@@ -38,7 +39,9 @@ pub struct Part {
 /// The place of a rule.
 #[derive(Clone, Copy, Debug, PartialEq, Eq)]
 pub struct Place {
+    /// The part that the rule belongs to.
     pub part: usize,
+    /// The items that the rule holds on arrival.
     pub held: u8,
     /// The subroutine that its Gosub is aimed at.
     pub calls: Option<usize>,
@@ -46,7 +49,9 @@ pub struct Place {
 
 /// Part 0 is the main part; place 0 is that of rule 1.
 pub struct Layout {
+    /// The main part, then the subroutines.
     pub parts: Vec<Part>,
+    /// The places of the rules in their order.
     pub places: Vec<Place>,
 }
 

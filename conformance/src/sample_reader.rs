@@ -7,8 +7,9 @@ use crate::reader::read_address;
 use crate::refusal::{Fault, Refusal};
 use crate::value::*;
 
-/// A reader of one form of a union, picked by its type word.
-type Form<T> = fn(&mut Cursor) -> Result<T, Refusal>;
+/// A reader of one form of a union, picked by its type word, or of the whole
+/// union.
+pub type Form<T> = fn(&mut Cursor) -> Result<T, Refusal>;
 
 /// Reads one sample from its type word on.
 pub fn read_sample(cursor: &mut Cursor) -> Result<Sample, Refusal> {
@@ -34,7 +35,8 @@ fn read_flow_sample(cursor: &mut Cursor) -> Result<Sample, Refusal> {
     }))
 }
 
-fn read_packet_data(cursor: &mut Cursor) -> Result<PacketData, Refusal> {
+/// Reads packet data from their type word on.
+pub fn read_packet_data(cursor: &mut Cursor) -> Result<PacketData, Refusal> {
     let form: Form<PacketData> = cursor.chosen(Fault::PacketDataType, |number| match number {
         grammar::HEADER => Some(read_header as Form<PacketData>),
         grammar::IPV4 => Some(read_ipv4),
@@ -82,7 +84,8 @@ fn read_ipv6(cursor: &mut Cursor) -> Result<PacketData, Refusal> {
     }))
 }
 
-fn read_extended_data(cursor: &mut Cursor) -> Result<ExtendedData, Refusal> {
+/// Reads one entry of extended data from its type word on.
+pub fn read_extended_data(cursor: &mut Cursor) -> Result<ExtendedData, Refusal> {
     let form: Form<ExtendedData> = cursor.chosen(Fault::ExtendedType, |number| match number {
         grammar::SWITCH => Some(read_switch as Form<ExtendedData>),
         grammar::ROUTER => Some(read_router),
@@ -122,7 +125,8 @@ fn read_gateway(cursor: &mut Cursor) -> Result<ExtendedData, Refusal> {
     }))
 }
 
-fn read_path_segment(cursor: &mut Cursor) -> Result<AsPath, Refusal> {
+/// Reads one path segment from its type word on.
+pub fn read_path_segment(cursor: &mut Cursor) -> Result<AsPath, Refusal> {
     let build: fn(Vec<u32>) -> AsPath =
         cursor.chosen(Fault::SegmentType, |number| match number {
             grammar::AS_SET => Some(AsPath::AsSet as fn(Vec<u32>) -> AsPath),

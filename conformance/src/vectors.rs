@@ -18,15 +18,22 @@ pub const SEED: u64 = 3176;
 /// Which part of the set a vector belongs to.
 #[derive(Clone, Copy, Debug, PartialEq, Eq)]
 pub enum Part {
+    /// A case of the scope.
     Case,
+    /// A valid datagram.
     Valid,
+    /// A damaged datagram.
     Damaged,
+    /// A datagram whose length is the point.
     EdgeLength,
 }
 
+/// One vector of the set.
 #[derive(Clone, Debug, PartialEq, Eq)]
 pub struct Vector {
+    /// Which part it belongs to.
     pub part: Part,
+    /// The octets that are read.
     pub octets: Vec<u8>,
 }
 

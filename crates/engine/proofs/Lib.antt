@@ -2,4 +2,3 @@ pub mod Meters
 pub mod Follows
 pub mod Keys
 pub mod Results
-pub mod Cases

@@ -1,4 +1,3 @@
 pub mod Meters
 pub mod Results
 pub mod Ends
-pub mod Cases

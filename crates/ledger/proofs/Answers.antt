@@ -8,7 +8,7 @@ use mathlib.Core.List.{List, [], _∷_}
 use lib.ListN.{length, getD, set}
 use lib.Seq.{getD-set-other, set-getD}
 use lib.Dec.{leb, ltb, eqb}
-use borrow.Author.Tests.{ltb-false, le-ltb}
+use borrow.Author.Tests.{ltb-true, ltb-false, le-ltb}
 use Rattle.ledger.specs.declared.FlowEntry.{FlowEntry}
 use Rattle.ledger.specs.declared.Row.{Row}
 use Rattle.ledger.specs.declared.EntryAnswer.{EntryAnswer}
@@ -118,3 +118,54 @@ full-exactly rows x = (to-rows, of-rows)
         let free : firstRow isFree rows ≡ length rows = none-first isFree rows (λ i l. rw (h i l .0)) in
         let low : length rows ≤ length rows = omega arith in
         rw (own, free, le-ltb (length rows) (length rows) low, le-ltb (length rows) (length rows) low)
+
+-- ---- 43 is for a lent row alone: the table's own row of a sample is its source's or free
+
+-- the lowest row that passes a test passes it
+first-passes : (p : Row → Bool) (rows : List Row) → firstRow p rows < length rows → p (getD rows (firstRow p rows) freeRow) ≡ true
+unfolding firstRow
+first-passes p [] h = absurd (omega arith)
+first-passes p (row ∷ rows) h = go (p row) refl h (first-passes p rows)
+  where
+    go : (b : Bool) → p row ≡ b → cond b 0 (suc (firstRow p rows)) < suc (length rows)
+        → (firstRow p rows < length rows → p (getD rows (firstRow p rows) freeRow) ≡ true) → p (getD (row ∷ rows) (cond b 0 (suc (firstRow p rows))) freeRow) ≡ true
+    go true e h more = e
+    go false e h more = more (omega arith)
+
+abbrev is-other : EntryAnswer → Bool
+is-other Entered = false
+is-other TableFull = false
+is-other Repeated = false
+is-other Backward = false
+is-other OtherSource = true
+
+-- a row of the sample's source, or a free one, is none of another source
+row-own : (row : Row) (x : FlowEntry) → (isOf (sourceOf x) row ≡ true) ⊎ (isFree row ≡ true) → updated row x .answer ≡ OtherSource → ⊥
+unfolding updated sameSource
+row-own row x = go (row .used) (same (rowSource row) (sourceOf x)) (eqb (step row x) 0) (leb (2 ^ 31) (step row x))
+  where
+    go : (a b c e : Bool) → (a && b ≡ true) ⊎ (not a ≡ true)
+        → cond a (cond b (cond c (answered Repeated row) (cond e (answered Backward row) (answered Entered (advanced row x)))) (answered OtherSource row)) (answered Entered (opened x)) .answer ≡ OtherSource → ⊥
+    go false b c e h q = false≢true (ap is-other q)
+    go true false c e (inl h) q = false≢true h
+    go true false c e (inr h) q = false≢true h
+    go true true true e h q = false≢true (ap is-other q)
+    go true true false true h q = false≢true (ap is-other q)
+    go true true false false h q = false≢true (ap is-other q)
+
+-- so the table never answers so
+pub never-other : (rows : List Row) (x : FlowEntry) → entered rows x .answer ≡ OtherSource → ⊥
+unfolding entered
+never-other rows x = go (ltb (rowFor x rows) (length rows)) refl
+  where
+    own : (b : Bool) → ltb (firstRow (isOf (sourceOf x)) rows) (length rows) ≡ b
+        → cond b (firstRow (isOf (sourceOf x)) rows) (firstRow isFree rows) < length rows
+        → (isOf (sourceOf x) (getD rows (cond b (firstRow (isOf (sourceOf x)) rows) (firstRow isFree rows)) freeRow) ≡ true)
+        ⊎ (isFree (getD rows (cond b (firstRow (isOf (sourceOf x)) rows) (firstRow isFree rows)) freeRow) ≡ true)
+    own true e h = inl (first-passes (isOf (sourceOf x)) rows h)
+    own false e h = inr (first-passes isFree rows h)
+
+    go : (b : Bool) → ltb (rowFor x rows) (length rows) ≡ b
+        → cond b (withRow rows (rowFor x rows) (updated (getD rows (rowFor x rows) freeRow) x)) (record { answer = TableFull; rows = rows }) .answer ≡ OtherSource → ⊥
+    go true e q = row-own (getD rows (rowFor x rows) freeRow) x (own (ltb (firstRow (isOf (sourceOf x)) rows) (length rows)) refl (ltb-true _ _ e)) q
+    go false e q = false≢true (ap is-other q)

@@ -3,5 +3,4 @@ pub mod Updates
 pub mod Tables
 pub mod Sameness
 pub mod Theorems
-pub mod Cases
 pub mod Answers

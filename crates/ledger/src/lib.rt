@@ -222,7 +222,7 @@ fn first_free(rows: [Row; 64]) -> usize
 }
 
 // Whether a row is in use for a sample's source.
-fn is_of(row: Row, x: FlowEntry) -> bool
+pub fn is_of(row: Row, x: FlowEntry) -> bool
     ensures { λ r. ⌜ r ≡ isOf (sourceOf x) row ⌝ }
 {
     if row.used {

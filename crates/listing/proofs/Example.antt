@@ -2,9 +2,9 @@
 use Prim.Native.Nat.{ℕ}
 use mathlib.Core.Path.{_≡_, refl}
 use mathlib.Core.List.{List, [], _∷_, _++_}
+use lib.ListN.{replicate}
 use Rattle.xdr.specs.Numbers.{numberAt, octetsOf}
 use Rattle.xdr.specs.Items.{wordAt, itemsAt, numbersAt}
-use Rattle.sflow.specs.Cases.{oneSample, counters}
 use Rattle.sflow.specs.Grammar.{encode, octetsOfEach}
 use Rattle.sflow.specs.Decode.{decode, entries}
 use Rattle.sflow.specs.Reading.{readDatagram}
@@ -14,6 +14,12 @@ use Rattle.listing.specs.Lines.{ending, sourceText, sampleText, sampleLi
 use Rattle.listing.specs.Records.{headOf, recordLines}
 use Rattle.listing.specs.Captures.{recordOf}
 use Rattle.listing.specs.Texts.{start, behindRecord, textOf, textWithin, textFrom, captureOf}
+
+-- case 7: agent 10.0.0.7, sequence 1, uptime 1000, one VLAN counter sample with sequence 5, source 01000064, interval 20, vlan 100, the rest 0
+abbrev case7 : List ℕ
+case7 =
+    0 ∷ 0 ∷ 0 ∷ 4 ∷ 0 ∷ 0 ∷ 0 ∷ 1 ∷ 10 ∷ 0 ∷ 0 ∷ 7 ∷ 0 ∷ 0 ∷ 0 ∷ 1 ∷ 0 ∷ 0 ∷ 3 ∷ 232 ∷ 0 ∷ 0 ∷ 0 ∷ 1
+    ∷ 0 ∷ 0 ∷ 0 ∷ 2 ∷ 0 ∷ 0 ∷ 0 ∷ 5 ∷ 1 ∷ 0 ∷ 0 ∷ 100 ∷ 0 ∷ 0 ∷ 0 ∷ 20 ∷ 0 ∷ 0 ∷ 0 ∷ 7 ∷ 0 ∷ 0 ∷ 0 ∷ 100 ∷ replicate 24 0
 
 -- "1 agent 10.0.0.7 seq 1 length 72"
 abbrev first : List ℕ
@@ -48,7 +54,7 @@ abbrev oneRefused : List ℕ
 oneRefused = 114 ∷ 101 ∷ 99 ∷ 111 ∷ 114 ∷ 100 ∷ 115 ∷ 32 ∷ 49 ∷ 32 ∷ 114 ∷ 101 ∷ 102 ∷ 117 ∷ 115 ∷ 101 ∷ 100 ∷ 32 ∷ 49 ∷ 32 ∷ 115 ∷ 97 ∷ 109 ∷ 112 ∷ 108 ∷ 101 ∷ 115 ∷ 32 ∷ 48 ∷ 10 ∷ []
 
 -- case 7's datagram, and then the word 5; an empty capture; the word 5, and then a single octet of a record
-pub examples : (textFrom start (captureOf ((oneSample ++ counters 7) ∷ (0 ∷ 0 ∷ 0 ∷ 5 ∷ []) ∷ [])) ≡ first ++ second ++ third ++ fourth)
+pub examples : (textFrom start (captureOf (case7 ∷ (0 ∷ 0 ∷ 0 ∷ 5 ∷ []) ∷ [])) ≡ first ++ second ++ third ++ fourth)
     × (textFrom start [] ≡ nothing)
     × (textFrom start (captureOf ((0 ∷ 0 ∷ 0 ∷ 5 ∷ []) ∷ []) ++ (115 ∷ [])) ≡ refusedFirst ++ badAtEight ++ oneRefused)
 unfolding readDatagram decode entries encode octetsOfEach octetsOf wordAt itemsAt numbersAt numberAt stepAt walk decimal shown ending sourceText sampleText sampleLine dotted agentText agentLine refusedLine badLine lastLine headOf recordLines recordOf behindRecord textOf textWithin textFrom

@@ -1,5 +1,6 @@
 -- The whole text of a capture: a fold over its records with a state (document 01, "Listing a capture").
 use Prim.Native.Nat.{ℕ, zero, suc, _+_, _/_, _%_}
+use mathlib.Core.Bool.{Bool, true, false}
 use mathlib.Core.List.{List, [], _∷_, _++_}
 use lib.ListN.{length, drop}
 use Rattle.reader.specs.declared.datagram.HeadRead.{HeadRead}
@@ -27,10 +28,15 @@ behindRecord t n x = countedAs t (4 + n) (headOf x)
 unfoldable pub textOf : State → List ℕ → List ℕ
 textOf t x = recordLines (more (t .records) 1) x
 
+-- what follows the last record: where the capture goes wrong there, the line that says so, then the last line
+abbrev pub endLines : State → Bool → List ℕ
+endLines t false = lastLine (t .records) (t .refused) (t .samples)
+endLines t true = badLine (t .offset) ++ lastLine (t .records) (t .refused) (t .samples)
+
 -- where no whole record follows: the end of the capture, or a bad record at the offset
 abbrev pub endText : State → List ℕ → List ℕ
-endText t [] = lastLine (t .records) (t .refused) (t .samples)
-endText t (x ∷ s) = badLine (t .offset) ++ lastLine (t .records) (t .refused) (t .samples)
+endText t [] = endLines t false
+endText t (x ∷ s) = endLines t true
 
 abbrev pub onRecord : State → List ℕ → Frame → (State → List ℕ → List ℕ) → List ℕ
 onRecord t s (Whole n) more = textOf t (datagramIn s n) ++ more (behindRecord t n (datagramIn s n)) (drop (4 + n) s)

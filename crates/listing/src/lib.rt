@@ -34,6 +34,7 @@ ghost use Rattle.reader.specs.Datagrams.{walk};
 ghost use Rattle.listing.specs.Records.{listing, listRecord};
 ghost use Rattle.listing.specs.declared.Frame.the-variants.{Whole};
 ghost use Rattle.listing.specs.Captures.{recordOf, accepted, refused, stoppedAs, placed, stepAt, isOver, listAll};
+ghost use Rattle.listing.specs.Texts.{endLines};
 
 // Puts octets at an offset and answers the offset behind them.
 fn put(d: &mut [u8], at: usize, s: &[u8]) -> usize
@@ -320,17 +321,12 @@ fn refused_line(d: &mut [u8], at: usize, index: u64, n: u32, p: usize) -> usize
     ending_line(d, p2, b" at ", p as u64)
 }
 
-// The line of a capture that goes wrong at an offset; 36 octets of room are asked for.
-pub fn bad_line(d: &mut [u8], at: usize, offset: u64) -> Written
-    ensures { λ r. ⌜ wrote r (now (d .exit)) ≡ writeLine 36 (now (d .entry)) at (badLine offset) ⌝ }
+// The line of a capture that goes wrong at an offset.
+fn bad_text(d: &mut [u8], at: usize, offset: u64) -> usize
+    requires { ⌜ at + 36 ≤ length (now d) ⌝ }
+    ensures { λ r. ⌜ Puts (now (d .entry)) at (badLine offset) r (now (d .exit)) × (r ≤ at + 36) ⌝ }
 {
-    if d.len() < at {
-        return Written::Full;
-    }
-    if d.len() - at < 36 {
-        return Written::Full;
-    }
-    Written::WrittenTo(ending_line(d, at, b"capture bad at ", offset))
+    ending_line(d, at, b"capture bad at ", offset)
 }
 
 // The numbers of the last line.
@@ -343,17 +339,29 @@ fn last_text(d: &mut [u8], at: usize, records: u64, refused: u64, samples: u64) 
     ending_line(d, p2, b" samples ", samples)
 }
 
-// The last line; 87 octets of room are asked for.
-pub fn last_line(d: &mut [u8], at: usize, records: u64, refused: u64, samples: u64) -> Written
-    ensures { λ r. ⌜ wrote r (now (d .exit)) ≡ writeLine 87 (now (d .entry)) at (lastLine records refused samples) ⌝ }
+// What follows the last record.
+fn end_text(d: &mut [u8], at: usize, t: State, bad: bool) -> usize
+    requires { ⌜ at + 123 ≤ length (now d) ⌝ }
+    ensures { λ r. ⌜ Puts (now (d .entry)) at (endLines t bad) r (now (d .exit)) ⌝ }
+{
+    if bad {
+        let next = bad_text(d, at, t.offset);
+        return last_text(d, next, t.records, t.refused, t.samples);
+    }
+    last_text(d, at, t.records, t.refused, t.samples)
+}
+
+// What follows the last record: where the capture goes wrong there, the line that says so, then the last line; 123 octets of room are asked for.
+pub fn end_lines(d: &mut [u8], at: usize, t: State, bad: bool) -> Written
+    ensures { λ r. ⌜ wrote r (now (d .exit)) ≡ writeLine 123 (now (d .entry)) at (endLines t bad) ⌝ }
 {
     if d.len() < at {
         return Written::Full;
     }
-    if d.len() - at < 87 {
+    if d.len() - at < 123 {
         return Written::Full;
     }
-    Written::WrittenTo(last_text(d, at, records, refused, samples))
+    Written::WrittenTo(end_text(d, at, t, bad))
 }
 
 // The lines of so many samples.

@@ -4,4 +4,3 @@ pub mod Packets
 pub mod Extended
 pub mod Samples
 pub mod Theorems
-pub mod Cases

@@ -1,3 +1,2 @@
 pub mod Forms
 pub mod Rewriting
-pub mod Cases

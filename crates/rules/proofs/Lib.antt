@@ -6,5 +6,4 @@ pub mod Records
 pub mod Opcodes
 pub mod Accepted
 pub mod Demand
-pub mod Cases
 pub mod Steps

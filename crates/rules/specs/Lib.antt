@@ -4,4 +4,3 @@ pub mod Bits
 pub mod Machine
 pub mod Checks
 pub mod Demand
-pub mod Cases

@@ -5,4 +5,3 @@ pub mod Ends
 pub mod Sound
 pub mod Complete
 pub mod Theorems
-pub mod Cases

@@ -4,4 +4,3 @@ pub mod Grammar
 pub mod Decode
 pub mod Datagram
 pub mod Reading
-pub mod Cases

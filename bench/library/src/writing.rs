@@ -1,0 +1,224 @@
+//! Writing a datagram again from its values: each part of a sample into a buffer of its own, the
+//! sample from these into another one, and that behind the datagram so far. The values are read once, before the first turn.
+
+use std::hint::black_box;
+
+use conformance::reader;
+use conformance::value::{Address, CountersSample, Datagram, ExtendedData, ExtendedSwitch};
+use conformance::value::{FlowSample, PacketData, Sample, SampledHeader};
+use conformance::writer::{self, GivenAddress};
+
+use crate::{calls, repeated, word, Side, Work};
+
+/// The longest datagram, and the length of its buffer.
+const LIMIT: usize = 1500;
+
+/// Kinds of `calls::write`, as include/sflow4.h names them.
+const WRITE_HEADER: u32 = 1;
+const WRITE_SWITCH: u32 = 11;
+const WRITE_FLOW: u32 = 21;
+
+/// A refusal's number.
+type Written = Result<usize, u32>;
+
+/// The buffers that are written to, the same in all turns; nothing clears them.
+struct Buffers {
+    datagram: [u8; LIMIT],
+    sample: [u8; 512],
+    packet: [u8; 512],
+    entries: [u8; 512],
+}
+
+pub fn write(work: Work) -> Result<u64, String> {
+    let given = reader::read(&work.octets).map_err(|refusal| refusal.to_string())?;
+    let mut buffers = Buffers {
+        datagram: [0; LIMIT],
+        sample: [0; 512],
+        packet: [0; 512],
+        entries: [0; 512],
+    };
+    let mut values = given.datagram;
+    let first = values.sequence_number;
+    let task = match work.side {
+        Side::Ours => ours,
+        Side::Second => second,
+    };
+    let found = repeated(work.turns, |turn| {
+        values.sequence_number = first.wrapping_add(turn);
+        let length = task(black_box(&values), &mut buffers);
+        length.map_or_else(u64::from, |length| {
+            length as u64 + u64::from(buffers.datagram[15])
+        })
+    });
+    values.sequence_number = first;
+    let last = task(&values, &mut buffers).map_err(|refusal| format!("refused {refusal}"))?;
+    if buffers.datagram[..last] != work.octets {
+        return Err("the datagram written is not the one in FILE".into());
+    }
+    Ok(found)
+}
+
+/// The type and four words of an address.
+fn words_of(address: &Address) -> (u32, [u32; 4]) {
+    match address {
+        Address::IpV4(octets) => (1, [word(octets, 0), 0, 0, 0]),
+        Address::IpV6(octets) => (2, [0, 4, 8, 12].map(|at| word(octets, at))),
+    }
+}
+
+/// What a call wrote, by its answer and its array.
+fn written(answer: u32, out: [u64; 1]) -> Written {
+    match answer {
+        0 => Ok(out[0] as usize),
+        refusal => Err(refusal),
+    }
+}
+
+fn ours(datagram: &Datagram, to: &mut Buffers) -> Written {
+    let mut out = [0];
+    let agent = words_of(&datagram.agent_address);
+    let (sequence, uptime) = (datagram.sequence_number, datagram.uptime);
+    let answer = calls::start(&mut to.datagram, LIMIT, agent, sequence, uptime, &mut out);
+    let mut length = written(answer, out)?;
+    for sample in &datagram.samples {
+        let octets = match sample {
+            Sample::Flow(flow) => ours_flow(flow, to)?,
+            Sample::Counters(counters) => ours_counters(counters, to)?,
+        };
+        let sample = &to.sample[..octets];
+        let answer = calls::append(&mut to.datagram, LIMIT, length, sample, &mut out);
+        length = written(answer, out)?;
+    }
+    Ok(length)
+}
+
+fn ours_flow(flow: &FlowSample, to: &mut Buffers) -> Written {
+    let mut out = [0];
+    let header = header_of(flow)?;
+    let words = [header.protocol, header.frame_length];
+    let answer = calls::write(
+        WRITE_HEADER,
+        &words,
+        &header.header,
+        &[],
+        &mut to.packet,
+        &mut out,
+    );
+    let packet = written(answer, out)?;
+    let mut entries = 0;
+    for entry in &flow.extended_data {
+        let own = switch_of(entry)?;
+        let words = [
+            own.src_vlan,
+            own.src_priority,
+            own.dst_vlan,
+            own.dst_priority,
+        ];
+        let room = &mut to.entries[entries..];
+        entries += written(
+            calls::write(WRITE_SWITCH, &words, &[], &[], room, &mut out),
+            out,
+        )?;
+    }
+    let words = [
+        flow.sequence_number,
+        flow.source_id,
+        flow.sampling_rate,
+        flow.sample_pool,
+        flow.drops,
+        flow.input,
+        flow.output,
+        flow.extended_data.len() as u32,
+    ];
+    let (packet, entries) = (&to.packet[..packet], &to.entries[..entries]);
+    written(
+        calls::write(
+            WRITE_FLOW,
+            &words,
+            packet,
+            entries,
+            &mut to.sample,
+            &mut out,
+        ),
+        out,
+    )
+}
+
+fn ours_counters(own: &CountersSample, to: &mut Buffers) -> Written {
+    let mut out = [0];
+    let version = own.version.number();
+    let words = [
+        own.sequence_number,
+        own.source_id,
+        own.sampling_interval,
+        version,
+    ];
+    written(
+        calls::write_counters(words, &own.counters, &mut to.sample, &mut out),
+        out,
+    )
+}
+
+fn second(datagram: &Datagram, to: &mut Buffers) -> Written {
+    let agent = GivenAddress::from(datagram.agent_address);
+    let (sequence, uptime) = (datagram.sequence_number, datagram.uptime);
+    let mut length = writer::start(&mut to.datagram, LIMIT, &agent, sequence, uptime)?;
+    for sample in &datagram.samples {
+        let octets = match sample {
+            Sample::Flow(flow) => second_flow(flow, to)?,
+            Sample::Counters(counters) => second_counters(counters, to)?,
+        };
+        length = writer::append(&mut to.datagram, LIMIT, length, &to.sample[..octets])?;
+    }
+    Ok(length)
+}
+
+fn second_flow(flow: &FlowSample, to: &mut Buffers) -> Written {
+    let own = header_of(flow)?;
+    let packet = writer::write_header(&mut to.packet, own.protocol, own.frame_length, &own.header)?;
+    let mut entries = 0;
+    for entry in &flow.extended_data {
+        entries += writer::write_switch(&mut to.entries[entries..], switch_of(entry)?)?;
+    }
+    let words = [
+        flow.sequence_number,
+        flow.source_id,
+        flow.sampling_rate,
+        flow.sample_pool,
+        flow.drops,
+        flow.input,
+        flow.output,
+    ];
+    let count = flow.extended_data.len() as u32;
+    let (packet, entries) = (&to.packet[..packet], &to.entries[..entries]);
+    writer::write_flow(&mut to.sample, words, packet, count, entries)
+}
+
+fn second_counters(own: &CountersSample, to: &mut Buffers) -> Written {
+    let (source, interval) = (own.source_id, own.sampling_interval);
+    let (version, numbers) = (own.version.number(), &own.counters);
+    writer::write_counters(
+        &mut to.sample,
+        own.sequence_number,
+        source,
+        interval,
+        version,
+        numbers,
+    )
+}
+
+/// The header of a flow sample; the inputs have no other packet data.
+fn header_of(flow: &FlowSample) -> Result<&SampledHeader, u32> {
+    match &flow.packet_data {
+        PacketData::Header(header) => Ok(header),
+        PacketData::Ipv4(_) | PacketData::Ipv6(_) => Err(writer::NOT_IN_GRAMMAR),
+    }
+}
+
+/// A switch entry; the inputs have no other extended data.
+fn switch_of(entry: &ExtendedData) -> Result<&ExtendedSwitch, u32> {
+    match entry {
+        ExtendedData::Switch(switch) => Ok(switch),
+        _ => Err(writer::NOT_IN_GRAMMAR),
+    }
+}

@@ -1,0 +1,220 @@
+// The proved core for programs in C and Rust: crates read_calls and write_calls under names that C can call, with the same contracts. A slice is passed as a
+// pointer and a length. include/sflow4.h says for each function what it answers.
+ghost use Rattle.engine.specs.Results.{engineOf};
+ghost use Rattle.extended_data.specs.ExtendedData.{segmentOf, asSegment, extendedOf, asExtended};
+ghost use Rattle.form_writer.specs.Parts.{writeValue};
+ghost use Rattle.listing.specs.Lines.{writeLine};
+ghost use Rattle.listing.specs.Texts.{endLines};
+ghost use Rattle.numbers.specs.Reports.{told, tell};
+ghost use Rattle.read_calls.specs.Reading.{headReport, sampleReport, extendedReport, segmentReport};
+ghost use Rattle.read_calls.specs.RuleSets.{checkReport, engineReport};
+ghost use Rattle.reader.specs.Datagrams.{datagramOf, asHead};
+ghost use Rattle.reader.specs.Samples.{sampleOf, asSample};
+ghost use Rattle.rules.specs.Checks.{check};
+ghost use Rattle.sample_writer.specs.CounterValues.{countersAllowed, countersValue};
+ghost use Rattle.sample_writer.specs.FlowValues.{isOne};
+ghost use Rattle.sflow.specs.Datagram.{as-path-type, extended-data-type, sample-type};
+ghost use Rattle.sflow.specs.Decode.{decode, mapped};
+ghost use Rattle.sflow.specs.Grammar.{encode};
+ghost use Rattle.sflow.specs.Reading.{readDatagram};
+ghost use Rattle.write_calls.specs.LedgerTable.{flowEntry, enteredTable};
+ghost use Rattle.write_calls.specs.ListedLines.{listedLines, countedTo, endedAt};
+ghost use Rattle.write_calls.specs.Writing.{handed, handOver, addressOf, written};
+ghost use Rattle.writer.specs.Datagrams.{started, appended};
+ghost use lib.Dec.{eqb};
+ghost use lib.ListN.{length};
+ghost use mathlib.Core.Bool.{not};
+ghost use mathlib.Core.Path.{_≡_};
+
+// `read_calls::reading::read`.
+#[no_mangle]
+pub extern "C" fn sflow4_read(octets: &[u8], out: &mut [u64]) -> u32
+    ensures { λ r. ⌜ told r (now (out .exit)) ≡ tell (headReport (asHead (mapped datagramOf (readDatagram (now (octets .entry)))))) (now (out .entry)) ⌝ }
+{
+    read_calls::reading::read(octets, out)
+}
+
+// `read_calls::reading::sample`.
+#[no_mangle]
+pub extern "C" fn sflow4_sample(octets: &[u8], at: usize, out: &mut [u64]) -> u32
+    ensures { λ r. ⌜ told r (now (out .exit))
+        ≡ tell (sampleReport (now (octets .entry)) (asSample at (mapped (sampleOf at) (decode sample-type (now (octets .entry)) at)))) (now (out .entry)) ⌝ }
+{
+    read_calls::reading::sample(octets, at, out)
+}
+
+// `read_calls::reading::extended`.
+#[no_mangle]
+pub extern "C" fn sflow4_extended(octets: &[u8], at: usize, out: &mut [u64]) -> u32
+    ensures { λ r. ⌜ told r (now (out .exit))
+        ≡ tell (extendedReport (asExtended (mapped (extendedOf at) (decode extended-data-type (now (octets .entry)) at)))) (now (out .entry)) ⌝ }
+{
+    read_calls::reading::extended(octets, at, out)
+}
+
+// `read_calls::reading::segment`.
+#[no_mangle]
+pub extern "C" fn sflow4_segment(octets: &[u8], at: usize, out: &mut [u64]) -> u32
+    ensures { λ r. ⌜ told r (now (out .exit))
+        ≡ tell (segmentReport (asSegment (mapped (segmentOf at) (decode as-path-type (now (octets .entry)) at)))) (now (out .entry)) ⌝ }
+{
+    read_calls::reading::segment(octets, at, out)
+}
+
+// `read_calls::rule_sets::check`.
+#[no_mangle]
+pub extern "C" fn rtfm_check(rules: &[u8], out: &mut [u64]) -> u32
+    ensures { λ r. ⌜ told r (now (out .exit)) ≡ tell (checkReport (check (now (rules .entry)))) (now (out .entry)) ⌝ }
+{
+    read_calls::rule_sets::check(rules, out)
+}
+
+// `read_calls::rule_sets::run`.
+#[no_mangle]
+pub extern "C" fn rtfm_run(rules: &[u8], sample: &[u8], out: &mut [u64]) -> u32
+    ensures { λ r. ⌜ told r (now (out .exit)) ≡ tell (engineReport (engineOf (now (rules .entry)) (now (sample .entry)))) (now (out .entry)) ⌝ }
+{
+    read_calls::rule_sets::run(rules, sample, out)
+}
+
+// `write_calls::writing::append`.
+#[no_mangle]
+pub extern "C" fn sflow4_append(
+    buffer: &mut [u8],
+    limit: usize,
+    length: usize,
+    sample: &[u8],
+    out: &mut [u64],
+) -> u32
+    ensures { λ r. ⌜ handed r (now (buffer .exit)) (now (out .exit))
+        ≡ handOver (appended (isOne sample-type (now (sample .entry))) (now (sample .entry)) limit length (now (buffer .entry))) (now (out .entry)) ⌝ }
+{
+    write_calls::writing::append(buffer, limit, length, sample, out)
+}
+
+// `write_calls::writing::start`.
+#[no_mangle]
+pub extern "C" fn sflow4_start(
+    buffer: &mut [u8],
+    limit: usize,
+    agent_type: u32,
+    a: u32,
+    b: u32,
+    c: u32,
+    d: u32,
+    sequence_number: u32,
+    uptime: u32,
+    out: &mut [u64],
+) -> u32
+    ensures { λ r. ⌜ handed r (now (buffer .exit)) (now (out .exit))
+        ≡ handOver (started limit (addressOf «agent_type» a b c d) «sequence_number» uptime (now (buffer .entry))) (now (out .entry)) ⌝ }
+{
+    write_calls::writing::start(
+        buffer,
+        limit,
+        agent_type,
+        a,
+        b,
+        c,
+        d,
+        sequence_number,
+        uptime,
+        out,
+    )
+}
+
+// `write_calls::writing::write_counters`.
+#[no_mangle]
+pub extern "C" fn sflow4_write_counters(
+    sequence_number: u32,
+    source_id: u32,
+    interval: u32,
+    version: u32,
+    numbers: &[u64],
+    buffer: &mut [u8],
+    out: &mut [u64],
+) -> u32
+    ensures { λ r. ⌜ handed r (now (buffer .exit)) (now (out .exit))
+        ≡ handOver (writeValue (countersAllowed version (now (numbers .entry)))
+        (encode sample-type (countersValue «sequence_number» «source_id» interval version (now (numbers .entry)))) (now (buffer .entry))) (now (out .entry)) ⌝ }
+{
+    write_calls::writing::write_counters(
+        sequence_number,
+        source_id,
+        interval,
+        version,
+        numbers,
+        buffer,
+        out,
+    )
+}
+
+// `write_calls::writing::write`.
+#[no_mangle]
+pub extern "C" fn sflow4_write(
+    kind: u32,
+    words: &[u32],
+    first: &[u8],
+    second: &[u8],
+    buffer: &mut [u8],
+    out: &mut [u64],
+) -> u32
+    ensures { λ r. ⌜ handed r (now (buffer .exit)) (now (out .exit))
+        ≡ handOver (written kind (now (words .entry)) (now (first .entry)) (now (second .entry)) (now (buffer .entry))) (now (out .entry)) ⌝ }
+{
+    write_calls::writing::write(kind, words, first, second, buffer, out)
+}
+
+// `write_calls::ledger_table::enter`.
+#[no_mangle]
+pub extern "C" fn sflow4_ledger(
+    table: &mut [u64],
+    agent_type: u32,
+    a: u32,
+    b: u32,
+    c: u32,
+    d: u32,
+    source_id: u32,
+    sequence_number: u32,
+    sample_pool: u32,
+) -> u32
+    ensures { λ r. ⌜ told r (now (table .exit))
+        ≡ enteredTable (flowEntry (addressOf «agent_type» a b c d) «source_id» «sequence_number» «sample_pool») (now (table .entry)) ⌝ }
+{
+    write_calls::ledger_table::enter(
+        table,
+        agent_type,
+        a,
+        b,
+        c,
+        d,
+        source_id,
+        sequence_number,
+        sample_pool,
+    )
+}
+
+// `write_calls::lines::list`.
+#[no_mangle]
+pub extern "C" fn sflow4_lines(capture: &[u8], output: &mut [u8], state: &mut [u64]) -> u32
+    ensures { λ r. ⌜ handed r (now (output .exit)) (now (state .exit)) ≡ listedLines (now (capture .entry)) (now (output .entry)) (now (state .entry)) ⌝ }
+{
+    write_calls::lines::list(capture, output, state)
+}
+
+// `write_calls::lines::end_lines`.
+#[no_mangle]
+pub extern "C" fn sflow4_end_lines(
+    output: &mut [u8],
+    offset: u64,
+    records: u64,
+    refused: u64,
+    samples: u64,
+    bad: u32,
+    out: &mut [u64],
+) -> u32
+    ensures { λ r. ⌜ handed r (now (output .exit)) (now (out .exit))
+        ≡ endedAt (writeLine 123 (now (output .entry)) 0 (endLines (countedTo offset records refused samples) (not (eqb bad 0)))) (now (out .entry)) ⌝ }
+{
+    write_calls::lines::end_lines(output, offset, records, refused, samples, bad, out)
+}

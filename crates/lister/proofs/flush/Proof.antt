@@ -1,0 +1,77 @@
+use borrow.Author.Needs.{needs}
+use Prim.Native.Nat.{_-_, _≤_}
+use Rattle.lister.proofs.flush.Statement.{statement}
+use Rattle.lister.proofs.flush.Tie as tie
+
+abbrev Inv-loop : tie.InvT-loop
+Inv-loop output n done₀ t5 done = done ≤ n
+
+abbrev μ-loop : tie.MeasureT-loop
+μ-loop output n done₀ t5 done = n - done
+
+-- src/main.rt:74:5
+loop-holds : tie.Need-loop-holds Inv-loop μ-loop
+loop-holds c = search needs
+
+-- src/main.rt:75:32
+sub-write-some : tie.Need-sub-write-some Inv-loop μ-loop
+sub-write-some c = search needs
+
+-- src/main.rt:75:32
+part-write-some-start : tie.Need-part-write-some-start Inv-loop μ-loop
+part-write-some-start c = search needs
+
+-- src/main.rt:75:32
+part-write-some-end : tie.Need-part-write-some-end Inv-loop μ-loop
+part-write-some-end c = search needs
+
+-- src/main.rt:75:13
+write-some-requires : tie.Need-write-some-requires Inv-loop μ-loop
+write-some-requires c κs = search needs
+
+-- src/main.rt:77:22
+slice-aggregate-fail : tie.Need-slice-aggregate-fail Inv-loop μ-loop
+slice-aggregate-fail c = search needs
+
+-- src/main.rt:77:13
+fail-requires : tie.Need-fail-requires Inv-loop μ-loop
+fail-requires c κs = search needs
+
+-- src/main.rt:78:13
+returns : tie.Need-returns Inv-loop μ-loop
+returns c = search needs
+
+-- src/main.rt:80:9
+add-done : tie.Need-add-done Inv-loop μ-loop
+add-done c = search needs
+
+-- src/main.rt:74:5
+loop-less : tie.Need-loop-less Inv-loop μ-loop
+loop-less c = search needs
+
+-- src/main.rt:74:5
+loop-again : tie.Need-loop-again Inv-loop μ-loop
+loop-again c = search needs
+
+-- src/main.rt:70:1
+returns-2 : tie.Need-returns-2 Inv-loop μ-loop
+returns-2 c = search needs
+
+pub flush-spec : {M : Type 1} → statement M
+flush-spec =
+    tie.close
+    (tie.spec
+    Inv-loop
+    μ-loop
+    loop-holds
+    sub-write-some
+    part-write-some-start
+    part-write-some-end
+    write-some-requires
+    slice-aggregate-fail
+    fail-requires
+    returns
+    add-done
+    loop-less
+    loop-again
+    returns-2)

@@ -1,0 +1,71 @@
+use Rattle.numbers.specs.Reports.{told}
+use mathlib.Core.Path.{ap, sym, _∙_}
+use Rattle.numbers.proofs.Reports.{telling}
+use borrow.Author.Needs.{needs}
+use Rattle.read_calls.proofs.rule_sets.check.Statement.{statement}
+use Rattle.read_calls.proofs.rule_sets.check.Tie as tie
+
+-- src/rule_sets.rt:14:11
+check-requires : tie.Need-check-requires
+check-requires c κs = search needs
+
+-- src/rule_sets.rt:16:18
+enum-told : tie.Need-enum-told
+enum-told c = search needs
+
+-- src/rule_sets.rt:16:23
+slice-aggregate-fill : tie.Need-slice-aggregate-fill
+slice-aggregate-fill c = search needs
+
+-- src/rule_sets.rt:16:13
+fill-requires : tie.Need-fill-requires
+fill-requires c κs = search needs
+
+-- src/rule_sets.rt:19:30
+enum-known-why : tie.Need-enum-known-why
+enum-known-why c = search needs
+
+-- src/rule_sets.rt:20:23
+slice-aggregate-fill-2 : tie.Need-slice-aggregate-fill-2
+slice-aggregate-fill-2 c = search needs
+
+-- src/rule_sets.rt:20:13
+fill-requires-2 : tie.Need-fill-requires-2
+fill-requires-2 c κs = search needs
+
+-- src/rule_sets.rt:21:13
+refusal-number-requires : tie.Need-refusal-number-requires
+refusal-number-requires c κs = search needs
+
+-- src/rule_sets.rt:10:1
+same-length : tie.Need-same-length
+same-length c = search needs
+
+-- src/rule_sets.rt:10:1
+returns : tie.Need-returns
+returns c = rw (sym (c .before .before .before .before .before .before .before .check .ensures) ∙ c .before .before .before .before .before .enum-told .given .1) (ap (told 0) (c .before .before .fill .ensures))
+
+-- src/rule_sets.rt:10:1
+same-length-2 : tie.Need-same-length-2
+same-length-2 c = search needs
+
+-- src/rule_sets.rt:10:1
+returns-2 : tie.Need-returns-2
+returns-2 c = rw (sym (c .before .before .before .before .before .before .before .before .before .check .ensures) ∙ c .before .before .before .before .before .before .before .why .given .1) (telling (c .refusal-number .ensures) (c .before .before .before .fill2 .ensures))
+
+pub check-spec : {M : Type 1} → statement M
+check-spec =
+    tie.close
+    (tie.spec
+    check-requires
+    enum-told
+    slice-aggregate-fill
+    fill-requires
+    enum-known-why
+    slice-aggregate-fill-2
+    fill-requires-2
+    refusal-number-requires
+    same-length
+    returns
+    same-length-2
+    returns-2)

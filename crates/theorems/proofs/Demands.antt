@@ -1,0 +1,70 @@
+-- The three demands hold: each by a law that is cited. Assumes nothing.
+use Prim.Native.Nat.{ℕ}
+use mathlib.Core.Path.{_≡_, sym}
+use mathlib.Core.List.{List}
+use Rattle.sflow.proofs.Theorems as grammar
+use Rattle.rewriting.proofs.Theorems as rewriting
+use Rattle.ledger.proofs.Theorems as ledger-runs
+use Rattle.ledger.proofs.Answers as ledger-answers
+use Rattle.ledger.proofs.Updates as ledger-rows
+use Rattle.packet.specs.Attributes.{attributesOf, attribute}
+use Rattle.rules.specs.declared.CheckAnswer.the-variants.{Accepted}
+use Rattle.rules.specs.Checks.{check}
+use Rattle.rules.proofs.Demand.{demand-3 as machine-demand}
+use Rattle.engine.specs.Ends.{ends-alike}
+use Rattle.engine.specs.Results.{engineOf}
+use Rattle.export.proofs.sflow4_read.Met as read
+use Rattle.export.proofs.sflow4_sample.Met as sample
+use Rattle.export.proofs.sflow4_extended.Met as extended
+use Rattle.export.proofs.sflow4_segment.Met as segment
+use Rattle.export.proofs.sflow4_start.Met as start
+use Rattle.export.proofs.sflow4_append.Met as append
+use Rattle.export.proofs.sflow4_write.Met as write
+use Rattle.export.proofs.sflow4_write_counters.Met as write-counters
+use Rattle.export.proofs.sflow4_ledger.Met as ledger
+use Rattle.export.proofs.rtfm_check.Met as check
+use Rattle.export.proofs.rtfm_run.Met as run
+use Rattle.export.proofs.sflow4_lines.Met as lines
+use Rattle.export.proofs.sflow4_end_lines.Met as end-lines
+use Rattle.theorems.specs.Demands.{Demand1, Demand2, Demand3}
+
+pub demand-1 : Demand1
+demand-1 =
+    record {
+      read-meets = read.met;
+      sample-meets = sample.met;
+      extended-meets = extended.met;
+      segment-meets = segment.met;
+      start-meets = start.met;
+      append-meets = append.met;
+      write-meets = write.met;
+      write-counters-meets = write-counters.met;
+      ledger-meets = ledger.met;
+      check-meets = check.met;
+      run-meets = run.met;
+      lines-meets = lines.met;
+      end-lines-meets = end-lines.met;
+    }
+
+pub demand-2 : Demand2
+demand-2 =
+    record {
+      accepted-exactly = grammar.accepted-exactly;
+      end-to-end = grammar.samples-end-to-end;
+      same-octets = rewriting.same-octets;
+      never-more = rewriting.never-more;
+      opens = λ row x e. sym (ledger-rows.opens row x e);
+      full-exactly = ledger-answers.full-exactly;
+      never-other = ledger-answers.never-other;
+      refusal-keeps = ledger-answers.table-kept;
+      others-stay = ledger-answers.others-stay;
+      totals = ledger-runs.totals-grow;
+    }
+
+pub demand-3 : (s : List ℕ) → check s ≡ Accepted → Demand3 s
+unfolding engineOf
+demand-3 s e =
+    record {
+      machine = machine-demand s e;
+      engine = λ x f h k answer rules items ends. rw (e, h, ends-alike s e (attribute (attributesOf x f)) k answer rules items ends);
+    }

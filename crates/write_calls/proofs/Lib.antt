@@ -1,0 +1,4 @@
+pub mod Writings
+pub mod ListedLines
+pub mod LedgerTables
+pub mod LedgerRows

@@ -1,0 +1,75 @@
+use Rattle.write_calls.specs.Writing.{ipv4Form}
+use borrow.Author.Tests.{eq-eqb, ne-eqb}
+use lib.ListN.{length}
+use mathlib.Core.Path.{refl}
+use borrow.Author.Needs.{needs}
+use Rattle.write_calls.proofs.writing.ipv4.Statement.{statement}
+use Rattle.write_calls.proofs.writing.ipv4.Tie as tie
+
+-- src/writing.rt:137:9
+returns : tie.Need-returns
+unfolding ipv4Form
+returns c = rw (ne-eqb (length (c .before .before .before .args .words .now)) 8 (c .if1 .taken)) refl
+
+-- src/writing.rt:140:17
+shared-slice-read-t7 : tie.Need-shared-slice-read-t7
+shared-slice-read-t7 c = search needs
+
+-- src/writing.rt:141:19
+shared-slice-read-t9 : tie.Need-shared-slice-read-t9
+shared-slice-read-t9 c = search needs
+
+-- src/writing.rt:142:17
+shared-slice-read-t11 : tie.Need-shared-slice-read-t11
+shared-slice-read-t11 c = search needs
+
+-- src/writing.rt:143:17
+shared-slice-read-t13 : tie.Need-shared-slice-read-t13
+shared-slice-read-t13 c = search needs
+
+-- src/writing.rt:144:19
+shared-slice-read-t15 : tie.Need-shared-slice-read-t15
+shared-slice-read-t15 c = search needs
+
+-- src/writing.rt:145:19
+shared-slice-read-t17 : tie.Need-shared-slice-read-t17
+shared-slice-read-t17 c = search needs
+
+-- src/writing.rt:146:20
+shared-slice-read-t19 : tie.Need-shared-slice-read-t19
+shared-slice-read-t19 c = search needs
+
+-- src/writing.rt:147:14
+shared-slice-read-t21 : tie.Need-shared-slice-read-t21
+shared-slice-read-t21 c = search needs
+
+-- src/writing.rt:149:5
+write-ipv4-requires : tie.Need-write-ipv4-requires
+write-ipv4-requires c κs = search needs
+
+-- src/writing.rt:133:1
+same-length : tie.Need-same-length
+same-length c = search needs
+
+-- src/writing.rt:133:1
+returns-2 : tie.Need-returns-2
+unfolding ipv4Form
+returns-2 c = let k = c .before .before .before .before .before .before .before .before .before .before .before .before in
+    rw (eq-eqb (length (k .before .before .before .args .words .now)) 8 (k .if1 .left)) (c .before .before .write-ipv4 .ensures)
+
+pub ipv4-spec : {M : Type 1} → statement M
+ipv4-spec =
+    tie.close
+    (tie.spec
+    returns
+    shared-slice-read-t7
+    shared-slice-read-t9
+    shared-slice-read-t11
+    shared-slice-read-t13
+    shared-slice-read-t15
+    shared-slice-read-t17
+    shared-slice-read-t19
+    shared-slice-read-t21
+    write-ipv4-requires
+    same-length
+    returns-2)

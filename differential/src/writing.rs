@@ -1,0 +1,192 @@
+//! Writing: calls of every writer, with the whole buffer afterwards.
+
+use conformance::inputs::{datagrams, writes};
+use conformance::reader::read;
+use conformance::write_calls::{CountersValues, Write, WriteCall};
+
+use crate::answers::*;
+use crate::calls;
+use crate::forms::{flow_form, form_of_call, written, Form};
+use crate::item_numbers::address_words;
+use crate::rewriting::compare_rewriting;
+use crate::tally::{Tally, Told};
+use crate::text::{from_difference, hex};
+
+/// Calls at scale 1.
+const CALLS: usize = 600_000;
+
+/// Datagrams at scale 1; the accepted ones are written again.
+const DATAGRAMS: usize = 60_000;
+
+/// Octets behind a buffer; they stay.
+pub const BEHIND: usize = 16;
+
+/// More octets than any counter sample has.
+pub const COUNTERS_ROOM: usize = 256;
+
+/// Compares on the calls of a seed, and on its accepted datagrams.
+pub fn compare_all(tally: &mut Tally, seed: u64, scale: usize) {
+    for call in writes(seed).take(CALLS.saturating_mul(scale)) {
+        tally.input();
+        compare_call(tally, &call);
+        if let Some(form) = form_of_call(&call.write) {
+            compare_wrong_form(tally, &call.buffer, form);
+        }
+    }
+    for octets in datagrams(seed).take(DATAGRAMS.saturating_mul(scale)) {
+        if let Ok(reading) = read(&octets) {
+            tally.input();
+            compare_rewriting(tally, &octets, &reading);
+        }
+    }
+}
+
+/// Compares a call: its number, the length and the whole buffer.
+fn compare_call(tally: &mut Tally, call: &WriteCall) {
+    let (answer, expected) = call.carried_out();
+    let second = match answer {
+        Ok(length) => Answer::new(0, vec![length as u64]),
+        Err(refusal) => Answer::new(refusal, Vec::new()),
+    };
+    let ours = |buffer: &mut [u8], out: &mut [u64]| carry_out(&call.write, buffer, out);
+    let input = || format!("{:?} buffer {}", call.write, hex(&call.buffer));
+    compare_written(
+        tally,
+        name_of(&call.write),
+        &input,
+        (&second, &expected),
+        &call.buffer,
+        &ours,
+    );
+}
+
+/// Compares what a call does to a buffer; the second program's answer comes with its buffer.
+fn compare_written(
+    tally: &mut Tally,
+    function: &str,
+    input: &dyn Fn() -> String,
+    (second, expected): (&Answer, &[u8]),
+    before: &[u8],
+    ours: &dyn Fn(&mut [u8], &mut [u64]) -> u32,
+) {
+    let room = tally.inputs() as usize % 3;
+    let mut array = [FILL; ROOM];
+    let mut buffer = before.to_vec();
+    buffer.resize(before.len() + BEHIND, FILL_OCTET);
+    let number = ours(&mut buffer[..before.len()], &mut array[..room]);
+    let (front, behind) = buffer.split_at(before.len());
+    let same = number == second.number
+        && has_taken(&array, room, &second.numbers)
+        && front == expected
+        && behind.iter().all(|&octet| octet == FILL_OCTET);
+    tally.compare(same, function, || Told {
+        input: format!("{} array of {room}", input()),
+        ours: format!(
+            "{} buffer {} behind {}",
+            numbers_text(number, &array),
+            from_difference(front, expected),
+            hex(behind)
+        ),
+        second: format!(
+            "{} buffer {}",
+            numbers_text(second.number, &second.numbers),
+            from_difference(expected, front)
+        ),
+    });
+}
+
+/// Calls the library's function for a call.
+fn carry_out(write: &Write, buffer: &mut [u8], out: &mut [u64]) -> u32 {
+    match write {
+        Write::Start {
+            limit,
+            agent,
+            sequence,
+            uptime,
+        } => {
+            let agent = (agent.address_type, address_words(&agent.octets));
+            calls::start(buffer, *limit, agent, *sequence, *uptime, out)
+        }
+        Write::Append {
+            limit,
+            length,
+            sample,
+        } => calls::append(buffer, *limit, *length, sample, out),
+        Write::AppendFlow {
+            limit,
+            length,
+            flow,
+        } => append_written(buffer, *limit, *length, flow_form(flow).octets(), out),
+        Write::AppendCounters {
+            limit,
+            length,
+            counters,
+        } => append_written(buffer, *limit, *length, counters_octets(counters), out),
+        Write::Counters(own) => write_counters(own, buffer, out),
+        _ => form_of_call(write).map_or(u32::MAX, |form| form.write(buffer, out)),
+    }
+}
+
+/// Appends a sample that was written from values. Where they were refused no octets are given,
+/// which are refused as the values were, behind what is tested before them.
+fn append_written(
+    buffer: &mut [u8],
+    limit: usize,
+    length: usize,
+    sample: Result<Vec<u8>, u32>,
+    out: &mut [u64],
+) -> u32 {
+    match sample {
+        Ok(sample) => calls::append(buffer, limit, length, &sample, out),
+        Err(22) => calls::append(buffer, limit, length, &[], out),
+        Err(refusal) => refusal,
+    }
+}
+
+fn write_counters(own: &CountersValues, buffer: &mut [u8], out: &mut [u64]) -> u32 {
+    let words = [own.sequence, own.source, own.interval, own.version];
+    calls::write_counters(words, &own.numbers, buffer, out)
+}
+
+fn counters_octets(own: &CountersValues) -> Result<Vec<u8>, u32> {
+    written(COUNTERS_ROOM, |buffer, out| {
+        write_counters(own, buffer, out)
+    })
+}
+
+/// The library's function for a call.
+fn name_of(write: &Write) -> &'static str {
+    match write {
+        Write::Start { .. } => "sflow4_start",
+        Write::Append { .. } => "sflow4_append",
+        Write::AppendFlow { .. } => "sflow4_write and sflow4_append",
+        Write::AppendCounters { .. } => "sflow4_write_counters and sflow4_append",
+        Write::Counters(_) => "sflow4_write_counters",
+        _ => "sflow4_write",
+    }
+}
+
+/// Kinds that are none.
+const NO_KINDS: [u32; 9] = [0, 4, 10, 17, 20, 22, 100, 1 << 31, u32::MAX];
+
+/// A form with too few or too many words, or of no kind, is refused with 22; nothing is changed.
+fn compare_wrong_form(tally: &mut Tally, buffer: &[u8], mut form: Form) {
+    let turn = tally.inputs() as usize;
+    match turn % 3 {
+        0 => form.kind = NO_KINDS[turn / 3 % NO_KINDS.len()],
+        1 if form.has_fixed_words() => form.words.push(turn as u32),
+        _ if form.fewest_words() > 0 => form.words.truncate(turn / 3 % form.fewest_words()),
+        _ => form.words.push(0),
+    }
+    let second = Answer::new(22, Vec::new());
+    let input = || format!("{form:?} buffer {}", hex(buffer));
+    let ours = |buffer: &mut [u8], out: &mut [u64]| form.write(buffer, out);
+    compare_written(
+        tally,
+        "sflow4_write",
+        &input,
+        (&second, buffer),
+        buffer,
+        &ours,
+    );
+}
