@@ -1,16 +1,22 @@
 //! Finds the proved library, libexport.a: in the folder that TROUTGABLE_LIB names, else in
-//! ../target/staticlib.
+//! target/staticlib of the nearest folder above this crate's that has it there.
 use std::env;
 use std::fs;
 use std::path::PathBuf;
 use std::process::exit;
 
 fn folder() -> PathBuf {
-    match env::var_os("TROUTGABLE_LIB") {
-        Some(named) => PathBuf::from(named),
-        None => PathBuf::from(env::var_os("CARGO_MANIFEST_DIR").unwrap_or_default())
-            .join("../target/staticlib"),
+    if let Some(named) = env::var_os("TROUTGABLE_LIB") {
+        return PathBuf::from(named);
     }
+    let here = PathBuf::from(env::var_os("CARGO_MANIFEST_DIR").unwrap_or_default());
+    let made = here
+        .ancestors()
+        .skip(1)
+        .map(|above| above.join("target/staticlib"));
+    made.into_iter()
+        .find(|folder| folder.join("libexport.a").is_file())
+        .unwrap_or_else(|| here.join("../target/staticlib"))
 }
 
 fn main() {

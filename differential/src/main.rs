@@ -4,6 +4,7 @@
 
 mod answers;
 mod arguments;
+#[path = "../../rust/src/calls.rs"]
 mod calls;
 mod exhaustive;
 mod expected_lines;

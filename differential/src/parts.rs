@@ -2,6 +2,7 @@
 
 use std::panic::{catch_unwind, AssertUnwindSafe};
 use std::process::ExitCode;
+use std::thread;
 
 use crate::arguments::Run;
 use crate::tally::Tally;
@@ -52,20 +53,32 @@ fn run_part(part: &Part, run: &Run) -> Tally {
     if compared.is_err() {
         tally.broke_off();
     }
+    tally.end();
     tally
 }
 
-/// Runs the parts one after the other; status 1 where something differs.
+/// Runs the parts side by side; status 1 where something differs.
 pub fn run_parts(run: &Run) -> ExitCode {
     println!("seed {} scale {}", run.seed, run.scale);
     let mut inputs = 0;
     let mut differences = 0;
-    for part in &run.parts {
-        let tally = run_part(part, run);
-        println!("{}", tally.summary());
-        inputs += tally.inputs();
-        differences += tally.differences();
-    }
+    thread::scope(|scope| {
+        let begin = |part: &&'static Part| {
+            let part = *part;
+            scope.spawn(move || run_part(part, run))
+        };
+        let running: Vec<_> = run.parts.iter().map(begin).collect();
+        for part in running {
+            match part.join() {
+                Ok(tally) => {
+                    println!("{}", tally.summary());
+                    inputs += tally.inputs();
+                    differences += tally.differences();
+                }
+                Err(_) => differences += 1,
+            }
+        }
+    });
     println!("{inputs} inputs, {differences} differences");
     if differences == 0 {
         ExitCode::SUCCESS

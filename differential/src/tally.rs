@@ -1,6 +1,6 @@
 //! The count of a part's inputs, comparisons and differences.
 
-use std::time::Instant;
+use std::time::{Duration, Instant};
 
 /// How many differences of a part are printed; the others are only counted.
 const PRINTED: u64 = 3;
@@ -19,6 +19,7 @@ pub struct Told {
 pub struct Tally {
     part: &'static str,
     begun: Instant,
+    took: Duration,
     inputs: u64,
     comparisons: u64,
     differences: u64,
@@ -30,6 +31,7 @@ impl Tally {
         Tally {
             part,
             begun: Instant::now(),
+            took: Duration::ZERO,
             inputs: 0,
             comparisons: 0,
             differences: 0,
@@ -69,6 +71,11 @@ impl Tally {
         }
     }
 
+    /// The part has ended.
+    pub fn end(&mut self) {
+        self.took = self.begun.elapsed();
+    }
+
     /// Counts a difference for a panic, which ended the part.
     pub fn broke_off(&mut self) {
         self.differences += 1;
@@ -78,12 +85,9 @@ impl Tally {
     fn print(&self, function: &str, told: &Told) {
         let after = self.begun.elapsed().as_secs_f64() * 1000.0;
         println!(
-            "{}: difference {} in {function}, at input {} after {after:.1} ms",
-            self.part, self.differences, self.inputs
+            "{}: difference {} in {function}, at input {} after {after:.1} ms\n  input   {}\n  ours    {}\n  second  {}",
+            self.part, self.differences, self.inputs, told.input, told.ours, told.second
         );
-        println!("  input   {}", told.input);
-        println!("  ours    {}", told.ours);
-        println!("  second  {}", told.second);
     }
 
     /// The part's line.
@@ -94,7 +98,7 @@ impl Tally {
             self.inputs,
             self.comparisons,
             self.differences,
-            self.begun.elapsed().as_secs_f64()
+            self.took.as_secs_f64()
         )
     }
 }

@@ -32,9 +32,18 @@ string-put d at xs ws r e out room f g =
     let h = wrote-fits d at (paddedOctets xs) r e f (omega arith) in
     g ∙ rw (h .octets-are) (stored-next d at (at + padded (length xs)) (paddedOctets xs) (wordsOctets ws) (omega arith) (omega arith))
 
+-- how many octets six parts take, one behind the other
+abbrev pub partsSize : (head first middle list second tail : List ℕ) → ℕ
+partsSize head first middle list second tail =
+    length head * 4 + padded (length first) + length middle * 4 + length list * 4 + padded (length second) + length tail * 4
+
+-- how many octets four parts take
+abbrev pub joinedSize : (head first middle second : List ℕ) → ℕ
+joinedSize head first middle second = length head * 4 + length first + length middle * 4 + length second
+
 -- the octets of the parts
 pub parts-length : (head first middle list second tail : List ℕ)
-    → length head * 4 + padded (length first) + length middle * 4 + length list * 4 + padded (length second) + length tail * 4
+    → partsSize head first middle list second tail
     ≡ length (partsOctets head first middle list second tail)
 unfolding partsOctets
 parts-length head first middle list second tail =
@@ -43,7 +52,7 @@ parts-length head first middle list second tail =
 
 -- the parts stored one behind the other
 pub parts-put : (d head first middle list second tail d1 d2 d3 d4 : List ℕ)
-    → length head * 4 + padded (length first) + length middle * 4 + length list * 4 + padded (length second) + length tail * 4 ≤ length d
+    → partsSize head first middle list second tail ≤ length d
     → d1 ≡ stored d 0 (wordsOctets head)
     → d2 ≡ stored d1 (length head * 4) (paddedOctets first ++ wordsOctets middle)
     → d3 ≡ stored d2 (length head * 4 + padded (length first) + length middle * 4) (wordsOctets list)
@@ -69,14 +78,14 @@ parts-put d head first middle list second tail d1 d2 d3 d4 room e1 e2 e3 e4 =
 -- ---- words, octets, words, octets
 
 pub joined-length : (head first middle second : List ℕ)
-    → length head * 4 + length first + length middle * 4 + length second ≡ length (joinedOctets head first middle second)
+    → joinedSize head first middle second ≡ length (joinedOctets head first middle second)
 unfolding joinedOctets
 joined-length head first middle second =
     rw (length-append, length-append, length-append, words-length head, words-length middle) (omega arith)
 
 -- the octets stored one behind the other
 pub joined-put : (d head first middle second d1 d2 d3 d4 : List ℕ) (r1 r2 : Written)
-    → length head * 4 + length first + length middle * 4 + length second ≤ length d
+    → joinedSize head first middle second ≤ length d
     → d1 ≡ stored d 0 (wordsOctets head)
     → wrote r1 d2 ≡ writeAt d1 (length head * 4) first
     → d3 ≡ stored d2 (length head * 4 + length first) (wordsOctets middle)

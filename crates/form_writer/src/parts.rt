@@ -68,7 +68,7 @@ fn put_words(d: &mut [u8], at: usize, ws: &[u32])
     let mut i = 0;
     let mut p = at;
     while i < ws.len() {
-        xdr::write_word(d, p, ws[i]);
+        xdr_write::write_word(d, p, ws[i]);
         p += 4;
         i += 1;
     }
@@ -92,7 +92,7 @@ fn put_string(d: &mut [u8], at: usize, xs: &[u8], ws: &[u32])
     ensures { λ _. ⌜ now (d .exit) ≡ stored (now (d .entry)) at (paddedOctets (now (xs .entry)) ++ wordsOctets (now (ws .entry))) ⌝ }
 {
     let whole = (xs.len() + 3) / 4 * 4;
-    xdr::write_padded(d, at, xs);
+    xdr_write::write_padded(d, at, xs);
     put_words(d, at + whole, ws);
 }
 
@@ -142,9 +142,9 @@ pub fn write_joined(
     let e = second.len();
     if fits(d.len(), a, b, c, e, 0, 0) {
         put_words(d, 0, head);
-        xdr::write_octets(d, a, first);
+        xdr_write::write_octets(d, a, first);
         put_words(d, a + b, middle);
-        xdr::write_octets(d, a + b + c, second);
+        xdr_write::write_octets(d, a + b + c, second);
         return WriteAnswer::Done(a + b + c + e);
     }
     WriteAnswer::NoRoom

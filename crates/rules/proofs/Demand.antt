@@ -2,7 +2,7 @@
 use Prim.Native.Nat.{ℕ, zero, suc, _+_, _-_, _≤_}
 use native.Mathlib.Omega.{arith}
 use mathlib.Core.Path.{_≡_, refl, sym, _∙_}
-use mathlib.Core.List.{List}
+use mathlib.Core.List.{List, [], _∷_}
 use mathlib.Core.Bool.{Bool, true, false}
 use lib.Dec.{leb}
 use borrow.Author.Tests.{leb-true, leb-false}
@@ -12,10 +12,10 @@ use Rattle.rules.specs.declared.Action.the-variants.{Unknown}
 use Rattle.rules.specs.declared.CheckAnswer.the-variants.{Accepted}
 use Rattle.rules.specs.Opcodes.{actionOf}
 use Rattle.rules.specs.Records.{count, ruleOf, declaredOf}
-use Rattle.rules.specs.Machine.{Outcome, running, ended, stuck, advance, after}
+use Rattle.rules.specs.Machine.{State, Outcome, running, ended, stuck, advance, after}
 use Rattle.rules.specs.Checks.{check}
-use Rattle.rules.specs.Demand.{WithinLimits, Demand3}
-use Rattle.rules.proofs.Invariant.{Sound, Reached, reached, ends}
+use Rattle.rules.specs.Demand.{WithinLimits, Demand3, openSubroutine, AsDeclared}
+use Rattle.rules.proofs.Invariant.{Sound, Frames, main, sub, Inv, Reached, reached, ends}
 use Rattle.rules.proofs.Accepted.{accepted-set, rule-sound}
 
 module _ (s : List ℕ) (e : check s ≡ Accepted) (at : ℕ → ℕ) where
@@ -44,6 +44,16 @@ module _ (s : List ℕ) (e : check s ≡ Accepted) (at : ℕ → ℕ) where
         always = λ k. within k (after n (ruleOf s) at k) (reach k);
         ends = ends n (ruleOf s) (declaredOf s) all-sound all-act at (accepted-set s e .some-rule);
       }
+
+  homes : (h : ℕ) (calls : List ℕ) → Frames n (ruleOf s) (declaredOf s) h calls → h ≡ openSubroutine (ruleOf s) calls
+  homes h calls main = refl
+  homes h calls (sub low high gosub deep frames) = refl
+
+  -- every rule that the machine comes to is come to as it declares
+  pub arrives-as-declared : (k : ℕ) (t : State) → after n (ruleOf s) at k ≡ running t → AsDeclared (ruleOf s) (declaredOf s) t
+  arrives-as-declared k t come =
+      let v : Inv n (ruleOf s) (declaredOf s) (t .number) (t .calls) (t .items) = (rw come at (reach k)) .0 in
+      record { home = homes _ _ (v .frames); depth = v .depth; held = v .held }
 
 -- ---- there is only one end
 

@@ -2,11 +2,12 @@
 -- calls open and 16 items queued, and ends within n + n^2 + n^3 + n^4 + n^5 rules.
 use Prim.Native.Nat.{ℕ, _+_, _^_, _≤_}
 use mathlib.Core.Path.{_≡_}
-use mathlib.Core.List.{List}
+use mathlib.Core.List.{List, [], _∷_}
 use lib.ListN.{length}
 use Rattle.rules.specs.declared.Rule.{Rule}
+use Rattle.rules.specs.declared.Declared.{Declared}
 use Rattle.rules.specs.declared.Item.{Item}
-use Rattle.rules.specs.Machine.{Outcome, running, ended, stuck, after}
+use Rattle.rules.specs.Machine.{State, Outcome, running, ended, stuck, after}
 
 abbrev pub bound : ℕ → ℕ
 bound n = n + n ^ 2 + n ^ 3 + n ^ 4 + n ^ 5
@@ -29,3 +30,16 @@ pub record Demand3 (n : ℕ) (rule : ℕ → Rule) (at : ℕ → ℕ) : Type 0 w
   pub always : (k : ℕ) → WithinLimits n (after n rule at k)
   -- it ends
   pub ends : EndsAt n rule at (bound n)
+
+-- ---- document 01's home, depth and held
+
+-- the first rule of the subroutine that is open: what its Gosub, the newest call, goes to; 0 in the main part
+abbrev pub openSubroutine : (ℕ → Rule) → List ℕ → ℕ
+openSubroutine rule [] = 0
+openSubroutine rule (g ∷ calls) = rule g .parameter
+
+-- the rule that a state has come to declares how it is come to: home is the open subroutine, depth counts open calls, held the queued items
+pub record AsDeclared (rule : ℕ → Rule) (declared : ℕ → Declared) (s : State) : Type 0 where
+  pub home : declared (s .number) .home ≡ openSubroutine rule (s .calls)
+  pub depth : declared (s .number) .depth ≡ length (s .calls)
+  pub held : declared (s .number) .held ≡ length (s .items)

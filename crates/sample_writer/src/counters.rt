@@ -52,9 +52,9 @@ fn write_number(d: &mut [u8], at: usize, width: u8, v: u64) -> Written
     ensures { λ r. ⌜ wrote r (now (d .exit)) ≡ writeAt (now (d .entry)) at (octetsOf width v) ⌝ }
 {
     if width == 8 {
-        return xdr::write_hyper(d, at, v);
+        return xdr_write::write_hyper(d, at, v);
     }
-    xdr::write_word(d, at, v as u32)
+    xdr_write::write_word(d, at, v as u32)
 }
 
 // Numbers that fit their widths, in place of the octets from an offset on.

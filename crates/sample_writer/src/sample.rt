@@ -56,7 +56,7 @@ pub fn write_sample(d: &mut [u8], sample: &[u8]) -> WriteAnswer
     if end != sample.len() {
         return WriteAnswer::BadValue;
     }
-    match xdr::write_octets(d, 0, sample) {
+    match xdr_write::write_octets(d, 0, sample) {
         Written::WrittenTo(n) => WriteAnswer::Done(n),
         Written::Full => WriteAnswer::NoRoom,
     }

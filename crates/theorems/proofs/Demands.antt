@@ -22,6 +22,7 @@ use Rattle.export.proofs.sflow4_append.Met as append
 use Rattle.export.proofs.sflow4_write.Met as write
 use Rattle.export.proofs.sflow4_write_counters.Met as write-counters
 use Rattle.export.proofs.sflow4_ledger.Met as ledger
+use Rattle.ledger.proofs.update_row.Met as lent-row
 use Rattle.export.proofs.rtfm_check.Met as check
 use Rattle.export.proofs.rtfm_run.Met as run
 use Rattle.export.proofs.sflow4_lines.Met as lines
@@ -40,6 +41,7 @@ demand-1 =
       write-meets = write.met;
       write-counters-meets = write-counters.met;
       ledger-meets = ledger.met;
+      lent-row-meets = lent-row.met;
       check-meets = check.met;
       run-meets = run.met;
       lines-meets = lines.met;

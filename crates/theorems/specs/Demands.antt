@@ -39,6 +39,7 @@ use Rattle.export.proofs.sflow4_append.Statement as append
 use Rattle.export.proofs.sflow4_write.Statement as write
 use Rattle.export.proofs.sflow4_write_counters.Statement as write-counters
 use Rattle.export.proofs.sflow4_ledger.Statement as ledger
+use Rattle.ledger.proofs.update_row.Statement as lent-row
 use Rattle.export.proofs.rtfm_check.Statement as check
 use Rattle.export.proofs.rtfm_run.Statement as run
 use Rattle.export.proofs.sflow4_lines.Statement as lines
@@ -47,8 +48,8 @@ use Rattle.export.proofs.sflow4_end_lines.Statement as end-lines
 -- 1. "Every octet string, rule set and table row is answered or refused, every call ends, no public entry needs anything checked beforehand; refusal number,
 -- place and the contents of each lent buffer are exactly document 01's."
 --
--- Each function that C and Rust can call meets its contract: a call is safe and ends, whatever it is given (no contract has a `requires`), and the number
--- that it answers and every lent slice afterwards are those of a definition.
+-- Each function that C and Rust can call, and the ledger's on one lent row, meets its contract: a call is safe and ends, whatever it is given (no contract
+-- has a `requires`), and the number that it answers and every lent slice and row afterwards are those of a definition.
 pub record Demand1 : Type 2 where
   -- a datagram, read
   pub read-meets : {M : Type 1} → read.statement M
@@ -68,6 +69,8 @@ pub record Demand1 : Type 2 where
   pub write-counters-meets : {M : Type 1} → write-counters.statement M
   -- a flow sample entered in the ledger
   pub ledger-meets : {M : Type 1} → ledger.statement M
+  -- a lent row of the ledger brought up to date
+  pub lent-row-meets : {M : Type 1} → lent-row.statement M
   -- a rule set checked
   pub check-meets : {M : Type 1} → check.statement M
   -- a rule set on a flow sample

@@ -90,7 +90,7 @@ fn raise_count(
 {
     match answer {
         WriteAnswer::Done(n) => {
-            xdr::write_word(d, at, count);
+            xdr_write::write_word(d, at, count);
             WriteAnswer::Done(length + n)
         }
         WriteAnswer::BadLimit => WriteAnswer::BadLimit,

@@ -13,7 +13,7 @@ use Rattle.xdr.specs.Items.{zerosAt, padded, withPadding, paddedAt}
 use Rattle.xdr.specs.declared.Zeros.{Zeros}
 use Rattle.xdr.specs.declared.Zeros.the-variants.{AllZero, NotZero}
 use Rattle.xdr.specs.declared.PaddedRead.the-variants.{Padded, CutPadded, NonzeroPadding}
-use Rattle.xdr.proofs.Reading.{never, tested-yes, tested-no}
+use Rattle.xdr.proofs.Reading.{never, tested-yes}
 
 -- No octets are all zero.
 pub zeros-end : (s : List ℕ) (at n : ℕ) → n ≤ 0 → zerosAt s at n ≡ AllZero
@@ -58,35 +58,6 @@ zeros-read s at (suc n) e =
     (λ h. absurd (never (let q = h .1 in cc)))
     (zero-tested (getD s at 0) _ _ _ e)
 
--- Octets that are zero every one are all zero.
-pub zeros-whole : (s : List ℕ) (at n : ℕ) → ((i : ℕ) → at ≤ i → i < at + n → getD s i 0 ≡ 0) → zerosAt s at n ≡ AllZero
-unfolding zerosAt
-zeros-whole s at zero f = refl
-zeros-whole s at (suc n) f =
-    let z : getD s at 0 ≡ 0 = f at (omega arith) (omega arith) in
-    simp (eq-eqb _ _ z) (zeros-whole s (at + 1) n (λ i a b. f i (omega arith) (omega arith)))
-
--- An octet that is the first of some that is not zero.
-pub record FirstNonzero (s : List ℕ) (at n p : ℕ) : Type 0 where
-  pub from : at ≤ p
-  pub inside : p < at + n
-  pub nonzero : getD s p 0 ≡ 0 → ⊥
-  pub zeros : (i : ℕ) → at ≤ i → i < p → getD s i 0 ≡ 0
-
--- What not zero says.
-pub zeros-not : (s : List ℕ) (at n p : ℕ) → zerosAt s at n ≡ NotZero p → FirstNonzero s at n p
-unfolding zerosAt
-zeros-not s at zero p e = absurd (never (cc))
-zeros-not s at (suc n) p e =
-    ⊎-elim
-    (λ h. let r = zeros-not s (at + 1) n p (h .1) in
-    let a : at + 1 ≤ p = r .from in
-    let b : p < at + 1 + n = r .inside in
-    record { from = omega arith; inside = omega arith; nonzero = r .nonzero; zeros = zeros-from s at p (h .0) (r .zeros) })
-    (λ h. let n : at ≡ p = let q = h .1 in cc in
-    record { from = omega arith; inside = omega arith; nonzero = rw n at (h .0); zeros = λ i a b. absurd (omega arith) })
-    (zero-tested (getD s at 0) _ _ _ e)
-
 -- A string that is there with zero padding is read.
 pub padded-whole : (s : List ℕ) (at n : ℕ) → at + padded n ≤ length s → zerosAt s (at + n) (padded n - n) ≡ AllZero
     → paddedAt s at n ≡ Padded (at + padded n)
@@ -109,14 +80,6 @@ padding-zero : (next end : ℕ) (z : Zeros) → withPadding end z ≡ Padded nex
 padding-zero next end AllZero e = (refl, cc)
 padding-zero next end (NotZero p) e = absurd (never (cc))
 
-padding-not : (p end : ℕ) (z : Zeros) → withPadding end z ≡ NonzeroPadding p → z ≡ NotZero p
-padding-not p end AllZero e = absurd (never (cc))
-padding-not p end (NotZero q) e = cc
-
-padding-there : (p end : ℕ) (z : Zeros) → withPadding end z ≡ CutPadded p → ⊥
-padding-there p end AllZero e = never (cc)
-padding-there p end (NotZero q) e = never (cc)
-
 -- A string that was read: its octets and padding are there, the padding is zero, and the next offset is behind it.
 pub record StringRead (s : List ℕ) (at n next : ℕ) : Type 0 where
   pub room : at + padded n ≤ length s
@@ -130,27 +93,3 @@ padded-read s at n next e =
     let h = tested-yes (at + padded n) (length s) _ _ _ (λ q. never (cc)) e in
     let z = padding-zero next (at + padded n) (zerosAt s (at + n) (padded n - n)) (h .1) in
     record { room = h .0; next-is = z .1; zeros = z .0 }
-
--- A string with padding that is not zero: its octets and padding are there, and an octet of the padding is the first that is not zero.
-pub record PaddingNot (s : List ℕ) (at n p : ℕ) : Type 0 where
-  pub room : at + padded n ≤ length s
-  pub first : zerosAt s (at + n) (padded n - n) ≡ NotZero p
-
--- What the answer of padding that is not zero says.
-pub padded-nonzero : (s : List ℕ) (at n p : ℕ) → paddedAt s at n ≡ NonzeroPadding p → PaddingNot s at n p
-unfolding paddedAt
-padded-nonzero s at n p e =
-    let h = tested-yes (at + padded n) (length s) _ _ _ (λ q. never (cc)) e in
-    record { room = h .0; first = padding-not p (at + padded n) (zerosAt s (at + n) (padded n - n)) (h .1) }
-
--- What the answer of a cut says: its offset is that of the read, and octets or padding are missing.
-cut-answer : (s : List ℕ) (at n p : ℕ) → paddedAt s at n ≡ CutPadded p → (length s < at + padded n) × (CutPadded at ≡ CutPadded p)
-unfolding paddedAt
-cut-answer s at n p e =
-    tested-no (at + padded n) (length s) _ _ _ (padding-there p (at + padded n) (zerosAt s (at + n) (padded n - n))) e
-
-pub padded-cut : (s : List ℕ) (at n p : ℕ) → paddedAt s at n ≡ CutPadded p → p ≡ at
-padded-cut s at n p e = let h = cut-answer s at n p e in cc
-
-pub padded-short : (s : List ℕ) (at n p : ℕ) → paddedAt s at n ≡ CutPadded p → length s < at + padded n
-padded-short s at n p e = (cut-answer s at n p e) .0

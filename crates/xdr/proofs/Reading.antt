@@ -100,10 +100,6 @@ pub word-cut : (s : List ℕ) (at p : ℕ) → wordAt s at ≡ CutWord p → p �
 unfolding wordAt
 word-cut s at p e = let h = tested-no (at + 4) (length s) _ _ _ (λ q. never (cc)) e in cc
 
-pub hyper-cut : (s : List ℕ) (at p : ℕ) → hyperAt s at ≡ CutHyper p → p ≡ at
-unfolding hyperAt
-hyper-cut s at p e = let h = tested-no (at + 8) (length s) _ _ _ (λ q. never (cc)) e in cc
-
 pub quad-cut : (s : List ℕ) (at p : ℕ) → quadAt s at ≡ CutQuad p → p ≡ at
 unfolding quadAt
 quad-cut s at p e = let h = tested-no (at + 16) (length s) _ _ _ (λ q. never (cc)) e in cc

@@ -3,9 +3,9 @@ use Prim.Native.Nat.{ℕ, suc, _+_, _≤_, _<_}
 use native.Mathlib.Nat.{add-zero, add-assoc}
 use native.Mathlib.Numerals.{add-one}
 use native.Mathlib.Omega.{arith}
-use mathlib.Core.Path.{_≡_, refl, sym, ap, _∙_}
+use mathlib.Core.Path.{_≡_, refl, sym, _∙_}
 use mathlib.Core.Logic.{⊎-elim}
-use mathlib.Core.List.{List, [], _∷_, _++_}
+use mathlib.Core.List.{List, [], _∷_}
 use lib.ListN.{length, getD, drop, drop-of-length-le}
 use lib.Seq.{drop-cons}
 use borrow.Author.Tests.{le-leb, lt-leb}
@@ -80,68 +80,3 @@ items-read s at (w ∷ ws) next e =
     let n : next ≡ at + w + sum ws = r .next-is in
     let k : next ≤ length s = r .within (h .0) in
     record { next-is = omega arith; within = λ _. k }
-
--- Items that were read, if there is one or more, are there.
-pub items-room : (s : List ℕ) (at w : ℕ) (ws : List ℕ) (next : ℕ) → itemsAt s at (w ∷ ws) ≡ Run next → at + sum (w ∷ ws) ≤ length s
-unfolding itemsAt
-items-room s at w ws next e =
-    let h = tested-yes (at + w) (length s) _ _ _ (λ q. never (cc)) e in
-    let r = items-read s (at + w) ws next (h .1) in
-    let k : next ≤ length s = r .within (h .0) in
-    omega (arith, r .next-is)
-
--- Items that are cut at an offset: the item that starts there has octets missing, and those before it are there.
-pub record ItemsCut (s : List ℕ) (at : ℕ) (ws : List ℕ) (p : ℕ) : Type 0 where
-  pub before : List ℕ
-  pub width : ℕ
-  pub after : List ℕ
-  pub widths-are : ws ≡ before ++ (width ∷ after)
-  pub place-is : p ≡ at + sum before
-  pub short : length s < p + width
-  pub within : at ≤ length s → p ≤ length s
-  pub all-short : length s < at + sum ws
-
--- What a cut run says.
-pub items-cut : (s : List ℕ) (at : ℕ) (ws : List ℕ) (p : ℕ) → itemsAt s at ws ≡ CutRun p → ItemsCut s at ws p
-unfolding itemsAt
-items-cut s at [] p e = absurd (never (cc))
-items-cut s at (w ∷ ws) p e =
-    ⊎-elim
-    (λ h. let r = items-cut s (at + w) ws p (h .1) in
-    let n : p ≡ at + w + sum (r .before) = r .place-is in
-    let a : length s < at + w + sum ws = r .all-short in
-    record {
-      before = w ∷ r .before;
-      width = r .width;
-      after = r .after;
-      widths-are = ap (λ (l : List ℕ). w ∷ l) (r .widths-are);
-      place-is = omega arith;
-      short = r .short;
-      within = λ _. r .within (h .0);
-      all-short = omega arith;
-    })
-    (λ h. let n : at ≡ p = let q = h .1 in cc in
-    let k : length s < at + w = h .0 in
-    record {
-      before = [];
-      width = w;
-      after = ws;
-      widths-are = refl;
-      place-is = omega arith;
-      short = omega arith;
-      within = λ l. omega arith;
-      all-short = omega arith;
-    })
-    (tested (at + w) (length s) _ _ _ e)
-
--- Where items have octets missing, the run is cut at some offset.
-pub items-missing : (s : List ℕ) (at : ℕ) (ws : List ℕ) → at ≤ length s → length s < at + sum ws
-    → (p : ℕ) × (itemsAt s at ws ≡ CutRun p)
-items-missing s at ws h k = go (itemsAt s at ws) refl
-  where
-    go : (r : RunRead) → itemsAt s at ws ≡ r → (p : ℕ) × (itemsAt s at ws ≡ CutRun p)
-    go (Run next) e =
-        let r = items-read s at ws next e in
-        let m : next ≤ length s = r .within h in
-        absurd (omega (arith, r .next-is))
-    go (CutRun p) e = (p, e)

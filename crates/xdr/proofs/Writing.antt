@@ -124,16 +124,6 @@ pub wrote-fits : (d : List ℕ) (at : ℕ) (xs : List ℕ) (r : Written) (e : Li
     → Fitted d at xs r e
 wrote-fits d at xs r e q h = let f = write-fits d at xs h in record { answer-is = cc; octets-are = cc }
 
--- What a write of octets that do not fit leaves.
-pub record Unchanged (d : List ℕ) (r : Written) (e : List ℕ) : Type 0 where
-  pub answer-is : r ≡ Full
-  pub octets-are : e ≡ d
-
-pub wrote-full : (d : List ℕ) (at : ℕ) (xs : List ℕ) (r : Written) (e : List ℕ)
-    → wrote r e ≡ writeAt d at xs → length d < at + length xs
-    → Unchanged d r e
-wrote-full d at xs r e q h = let f = write-full d at xs h in record { answer-is = cc; octets-are = cc }
-
 -- What the answer of an offset says: the octets fit, the offset is behind them, and they are stored.
 pub record WriteDone (d : List ℕ) (at : ℕ) (xs : List ℕ) (next : ℕ) (e : List ℕ) : Type 0 where
   pub room : at + length xs ≤ length d

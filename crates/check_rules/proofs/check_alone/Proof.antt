@@ -22,7 +22,9 @@ is-over-limits-requires c κs = search needs
 
 -- src/lib.rt:159:9
 returns : tie.Need-returns
-returns c = alone-is (c .before .before .before .args .n) (c .before .before .before .args .i) (c .before .before .before .args .rule) (c .before .before .before .args .declared) _ true _ _ _ (c .before .before .action-of .ensures) (sym (c .if1 .taken) ∙ c .before .is-over-limits .ensures) refl refl refl
+returns c =
+    let entry = c .before .before .before in
+    alone-is (entry .args .n) (entry .args .i) (entry .args .rule) (entry .args .declared) _ true _ _ _ (c .before .before .action-of .ensures) (sym (c .if1 .taken) ∙ c .before .is-over-limits .ensures) refl refl refl
 
 -- src/lib.rt:161:8
 is-bad-first-requires : tie.Need-is-bad-first-requires
@@ -30,7 +32,11 @@ is-bad-first-requires c κs = search needs
 
 -- src/lib.rt:162:9
 returns-2 : tie.Need-returns-2
-returns-2 c = alone-is (c .before .before .before .before .before .args .n) (c .before .before .before .before .before .args .i) (c .before .before .before .before .before .args .rule) (c .before .before .before .before .before .args .declared) _ false true _ _ (c .before .before .before .before .action-of .ensures) (sym (c .before .before .if1 .left) ∙ c .before .before .before .is-over-limits .ensures) (sym (c .if2 .taken) ∙ c .before .is-bad-first .ensures) refl refl
+returns-2 c =
+    let at-is-over-limits = c .before .before .before in
+    let at-action-of = at-is-over-limits .before in
+    let entry = at-action-of .before in
+    alone-is (entry .args .n) (entry .args .i) (entry .args .rule) (entry .args .declared) _ false true _ _ (at-action-of .action-of .ensures) (sym (c .before .before .if1 .left) ∙ at-is-over-limits .is-over-limits .ensures) (sym (c .if2 .taken) ∙ c .before .is-bad-first .ensures) refl refl
 
 -- src/lib.rt:164:8
 is-return-in-main-requires : tie.Need-is-return-in-main-requires
@@ -38,7 +44,13 @@ is-return-in-main-requires c κs = search needs
 
 -- src/lib.rt:165:9
 returns-3 : tie.Need-returns-3
-returns-3 c = alone-is (c .before .before .before .before .before .before .before .args .n) (c .before .before .before .before .before .before .before .args .i) (c .before .before .before .before .before .before .before .args .rule) (c .before .before .before .before .before .before .before .args .declared) _ false false true _ (c .before .before .before .before .before .before .action-of .ensures) (sym (c .before .before .before .before .if1 .left) ∙ c .before .before .before .before .before .is-over-limits .ensures) (sym (c .before .before .if2 .left) ∙ c .before .before .before .is-bad-first .ensures) (sym (c .if3 .taken) ∙ c .before .is-return-in-main .ensures) refl
+returns-3 c =
+    let at-is-bad-first = c .before .before .before in
+    let at-if1 = at-is-bad-first .before in
+    let at-is-over-limits = at-if1 .before in
+    let at-action-of = at-is-over-limits .before in
+    let entry = at-action-of .before in
+    alone-is (entry .args .n) (entry .args .i) (entry .args .rule) (entry .args .declared) _ false false true _ (at-action-of .action-of .ensures) (sym (at-if1 .if1 .left) ∙ at-is-over-limits .is-over-limits .ensures) (sym (c .before .before .if2 .left) ∙ at-is-bad-first .is-bad-first .ensures) (sym (c .if3 .taken) ∙ c .before .is-return-in-main .ensures) refl
 
 -- src/lib.rt:167:8
 is-bad-target-requires : tie.Need-is-bad-target-requires
@@ -46,11 +58,27 @@ is-bad-target-requires c κs = search needs
 
 -- src/lib.rt:168:9
 returns-4 : tie.Need-returns-4
-returns-4 c = alone-is (c .before .before .before .before .before .before .before .before .before .args .n) (c .before .before .before .before .before .before .before .before .before .args .i) (c .before .before .before .before .before .before .before .before .before .args .rule) (c .before .before .before .before .before .before .before .before .before .args .declared) _ false false false true (c .before .before .before .before .before .before .before .before .action-of .ensures) (sym (c .before .before .before .before .before .before .if1 .left) ∙ c .before .before .before .before .before .before .before .is-over-limits .ensures) (sym (c .before .before .before .before .if2 .left) ∙ c .before .before .before .before .before .is-bad-first .ensures) (sym (c .before .before .if3 .left) ∙ c .before .before .before .is-return-in-main .ensures) (sym (c .if4 .taken) ∙ c .before .is-bad-target .ensures)
+returns-4 c =
+    let at-is-return-in-main = c .before .before .before in
+    let at-if2 = at-is-return-in-main .before in
+    let at-is-bad-first = at-if2 .before in
+    let at-if1 = at-is-bad-first .before in
+    let at-is-over-limits = at-if1 .before in
+    let at-action-of = at-is-over-limits .before in
+    let entry = at-action-of .before in
+    alone-is (entry .args .n) (entry .args .i) (entry .args .rule) (entry .args .declared) _ false false false true (at-action-of .action-of .ensures) (sym (at-if1 .if1 .left) ∙ at-is-over-limits .is-over-limits .ensures) (sym (at-if2 .if2 .left) ∙ at-is-bad-first .is-bad-first .ensures) (sym (c .before .before .if3 .left) ∙ at-is-return-in-main .is-return-in-main .ensures) (sym (c .if4 .taken) ∙ c .before .is-bad-target .ensures)
 
 -- src/lib.rt:154:1
 returns-5 : tie.Need-returns-5
-returns-5 c = alone-is (c .before .before .before .before .before .before .before .before .before .args .n) (c .before .before .before .before .before .before .before .before .before .args .i) (c .before .before .before .before .before .before .before .before .before .args .rule) (c .before .before .before .before .before .before .before .before .before .args .declared) _ false false false false (c .before .before .before .before .before .before .before .before .action-of .ensures) (sym (c .before .before .before .before .before .before .if1 .left) ∙ c .before .before .before .before .before .before .before .is-over-limits .ensures) (sym (c .before .before .before .before .if2 .left) ∙ c .before .before .before .before .before .is-bad-first .ensures) (sym (c .before .before .if3 .left) ∙ c .before .before .before .is-return-in-main .ensures) (sym (c .if4 .left) ∙ c .before .is-bad-target .ensures)
+returns-5 c =
+    let at-is-return-in-main = c .before .before .before in
+    let at-if2 = at-is-return-in-main .before in
+    let at-is-bad-first = at-if2 .before in
+    let at-if1 = at-is-bad-first .before in
+    let at-is-over-limits = at-if1 .before in
+    let at-action-of = at-is-over-limits .before in
+    let entry = at-action-of .before in
+    alone-is (entry .args .n) (entry .args .i) (entry .args .rule) (entry .args .declared) _ false false false false (at-action-of .action-of .ensures) (sym (at-if1 .if1 .left) ∙ at-is-over-limits .is-over-limits .ensures) (sym (at-if2 .if2 .left) ∙ at-is-bad-first .is-bad-first .ensures) (sym (c .before .before .if3 .left) ∙ at-is-return-in-main .is-return-in-main .ensures) (sym (c .if4 .left) ∙ c .before .is-bad-target .ensures)
 
 pub check-alone-spec : {M : Type 1} → statement M
 check-alone-spec =

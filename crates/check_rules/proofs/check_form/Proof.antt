@@ -20,7 +20,9 @@ is-known-requires c κs = search needs
 
 -- src/lib.rt:56:9
 returns-2 : tie.Need-returns-2
-returns-2 c = form-is (c .before .before .before .args .mark) (c .before .before .before .args .attribute) (c .before .before .before .args .opcode) false true _ (sym (ap not (eq-eqb (c .before .before .before .args .mark) 21109 (c .before .before .if1 .left)))) (sym (c .if2 .taken) ∙ ap not (c .before .is-known .ensures)) refl
+returns-2 c =
+    let entry = c .before .before .before in
+    form-is (entry .args .mark) (entry .args .attribute) (entry .args .opcode) false true _ (sym (ap not (eq-eqb (entry .args .mark) 21109 (c .before .before .if1 .left)))) (sym (c .if2 .taken) ∙ ap not (c .before .is-known .ensures)) refl
 
 -- src/lib.rt:58:8
 is-bad-opcode-requires : tie.Need-is-bad-opcode-requires
@@ -28,11 +30,19 @@ is-bad-opcode-requires c κs = search needs
 
 -- src/lib.rt:59:9
 returns-3 : tie.Need-returns-3
-returns-3 c = form-is (c .before .before .before .before .before .args .mark) (c .before .before .before .before .before .args .attribute) (c .before .before .before .before .before .args .opcode) false false true (sym (ap not (eq-eqb (c .before .before .before .before .before .args .mark) 21109 (c .before .before .before .before .if1 .left)))) (sym (c .before .before .if2 .left) ∙ ap not (c .before .before .before .is-known .ensures)) (sym (c .if3 .taken) ∙ c .before .is-bad-opcode .ensures)
+returns-3 c =
+    let at-is-known = c .before .before .before in
+    let at-if1 = at-is-known .before in
+    let entry = at-if1 .before in
+    form-is (entry .args .mark) (entry .args .attribute) (entry .args .opcode) false false true (sym (ap not (eq-eqb (entry .args .mark) 21109 (at-if1 .if1 .left)))) (sym (c .before .before .if2 .left) ∙ ap not (at-is-known .is-known .ensures)) (sym (c .if3 .taken) ∙ c .before .is-bad-opcode .ensures)
 
 -- src/lib.rt:49:1
 returns-4 : tie.Need-returns-4
-returns-4 c = form-is (c .before .before .before .before .before .args .mark) (c .before .before .before .before .before .args .attribute) (c .before .before .before .before .before .args .opcode) false false false (sym (ap not (eq-eqb (c .before .before .before .before .before .args .mark) 21109 (c .before .before .before .before .if1 .left)))) (sym (c .before .before .if2 .left) ∙ ap not (c .before .before .before .is-known .ensures)) (sym (c .if3 .left) ∙ c .before .is-bad-opcode .ensures)
+returns-4 c =
+    let at-is-known = c .before .before .before in
+    let at-if1 = at-is-known .before in
+    let entry = at-if1 .before in
+    form-is (entry .args .mark) (entry .args .attribute) (entry .args .opcode) false false false (sym (ap not (eq-eqb (entry .args .mark) 21109 (at-if1 .if1 .left)))) (sym (c .before .before .if2 .left) ∙ ap not (at-is-known .is-known .ensures)) (sym (c .if3 .left) ∙ c .before .is-bad-opcode .ensures)
 
 pub check-form-spec : {M : Type 1} → statement M
 check-form-spec =

@@ -30,7 +30,10 @@ is-bad-queue-requires c κs = search needs
 
 -- src/lib.rt:333:9
 returns : tie.Need-returns
-returns c = let a = c .before .before .before .before .before .before .before .args in rest-is (recordOf (now (a .s))) (a .n) (a .i) (c .before .before .before .before .before .record-at .result) true _ _ (c .before .before .before .before .before .record-at .ensures) (sym (c .if1 .taken) ∙ c .before .is-bad-queue .ensures ∙ ap (λ (x : Action). badQueue x (c .before .before .before .before .before .record-at .result .declared .held)) (c .before .before .action-of .ensures)) refl refl (c .before .before .before .before .before .before .before .pre)
+returns c =
+    let at-record-at = c .before .before .before .before .before in
+    let entry = at-record-at .before .before in
+    let a = entry .args in rest-is (recordOf (now (a .s))) (a .n) (a .i) (at-record-at .record-at .result) true _ _ (at-record-at .record-at .ensures) (sym (c .if1 .taken) ∙ c .before .is-bad-queue .ensures ∙ ap (λ (x : Action). badQueue x (at-record-at .record-at .result .declared .held)) (c .before .before .action-of .ensures)) refl refl (entry .pre)
 
 -- src/lib.rt:335:8
 next-differs-requires : tie.Need-next-differs-requires
@@ -38,19 +41,43 @@ next-differs-requires c κs = search needs
 
 -- src/lib.rt:336:9
 returns-2 : tie.Need-returns-2
-returns-2 c = let a = c .before .before .before .before .before .before .before .before .before .args in rest-is (recordOf (now (a .s))) (a .n) (a .i) (c .before .before .before .before .before .before .before .record-at .result) false true _ (c .before .before .before .before .before .before .before .record-at .ensures) (sym (c .before .before .if1 .left) ∙ c .before .before .before .is-bad-queue .ensures ∙ ap (λ (x : Action). badQueue x (c .before .before .before .before .before .before .before .record-at .result .declared .held)) (c .before .before .before .before .action-of .ensures)) (sym (c .if2 .taken) ∙ c .before .next-differs .ensures) refl (c .before .before .before .before .before .before .before .before .before .pre)
+returns-2 c =
+    let at-is-bad-queue = c .before .before .before in
+    let at-action-of = at-is-bad-queue .before in
+    let at-record-at = at-action-of .before .before .before in
+    let entry = at-record-at .before .before in
+    let a = entry .args in rest-is (recordOf (now (a .s))) (a .n) (a .i) (at-record-at .record-at .result) false true _ (at-record-at .record-at .ensures) (sym (c .before .before .if1 .left) ∙ at-is-bad-queue .is-bad-queue .ensures ∙ ap (λ (x : Action). badQueue x (at-record-at .record-at .result .declared .held)) (at-action-of .action-of .ensures)) (sym (c .if2 .taken) ∙ c .before .next-differs .ensures) refl (entry .pre)
 
 -- src/lib.rt:338:8
 target-differs-requires : tie.Need-target-differs-requires
-target-differs-requires c κs = queue-fine (recordOf (now (c .before .before .before .before .before .before .before .before .before .args .s))) (c .before .before .before .before .before .before .before .before .before .args .i) (c .before .before .before .before .before .before .before .record-at .result) _ (c .before .before .before .before .before .before .before .record-at .ensures) (c .before .before .before .before .action-of .ensures) (sym (c .before .before .before .is-bad-queue .ensures) ∙ c .before .before .if1 .left)
+target-differs-requires c κs =
+    let at-is-bad-queue = c .before .before .before in
+    let at-action-of = at-is-bad-queue .before in
+    let at-record-at = at-action-of .before .before .before in
+    let entry = at-record-at .before .before in
+    queue-fine (recordOf (now (entry .args .s))) (entry .args .i) (at-record-at .record-at .result) _ (at-record-at .record-at .ensures) (at-action-of .action-of .ensures) (sym (at-is-bad-queue .is-bad-queue .ensures) ∙ c .before .before .if1 .left)
 
 -- src/lib.rt:339:9
 returns-3 : tie.Need-returns-3
-returns-3 c = let a = c .before .before .before .before .before .before .before .before .before .before .before .args in rest-is (recordOf (now (a .s))) (a .n) (a .i) (c .before .before .before .before .before .before .before .before .before .record-at .result) false false true (c .before .before .before .before .before .before .before .before .before .record-at .ensures) (sym (c .before .before .before .before .if1 .left) ∙ c .before .before .before .before .before .is-bad-queue .ensures ∙ ap (λ (x : Action). badQueue x (c .before .before .before .before .before .before .before .before .before .record-at .result .declared .held)) (c .before .before .before .before .before .before .action-of .ensures)) (sym (c .before .before .if2 .left) ∙ c .before .before .before .next-differs .ensures) (sym (c .if3 .taken) ∙ c .before .target-differs .ensures) (c .before .before .before .before .before .before .before .before .before .before .before .pre)
+returns-3 c =
+    let at-next-differs = c .before .before .before in
+    let at-if1 = at-next-differs .before in
+    let at-is-bad-queue = at-if1 .before in
+    let at-action-of = at-is-bad-queue .before in
+    let at-record-at = at-action-of .before .before .before in
+    let entry = at-record-at .before .before in
+    let a = entry .args in rest-is (recordOf (now (a .s))) (a .n) (a .i) (at-record-at .record-at .result) false false true (at-record-at .record-at .ensures) (sym (at-if1 .if1 .left) ∙ at-is-bad-queue .is-bad-queue .ensures ∙ ap (λ (x : Action). badQueue x (at-record-at .record-at .result .declared .held)) (at-action-of .action-of .ensures)) (sym (c .before .before .if2 .left) ∙ at-next-differs .next-differs .ensures) (sym (c .if3 .taken) ∙ c .before .target-differs .ensures) (entry .pre)
 
 -- src/lib.rt:325:1
 returns-4 : tie.Need-returns-4
-returns-4 c = let a = c .before .before .before .before .before .before .before .before .before .before .before .args in rest-is (recordOf (now (a .s))) (a .n) (a .i) (c .before .before .before .before .before .before .before .before .before .record-at .result) false false false (c .before .before .before .before .before .before .before .before .before .record-at .ensures) (sym (c .before .before .before .before .if1 .left) ∙ c .before .before .before .before .before .is-bad-queue .ensures ∙ ap (λ (x : Action). badQueue x (c .before .before .before .before .before .before .before .before .before .record-at .result .declared .held)) (c .before .before .before .before .before .before .action-of .ensures)) (sym (c .before .before .if2 .left) ∙ c .before .before .before .next-differs .ensures) (sym (c .if3 .left) ∙ c .before .target-differs .ensures) (c .before .before .before .before .before .before .before .before .before .before .before .pre)
+returns-4 c =
+    let at-next-differs = c .before .before .before in
+    let at-if1 = at-next-differs .before in
+    let at-is-bad-queue = at-if1 .before in
+    let at-action-of = at-is-bad-queue .before in
+    let at-record-at = at-action-of .before .before .before in
+    let entry = at-record-at .before .before in
+    let a = entry .args in rest-is (recordOf (now (a .s))) (a .n) (a .i) (at-record-at .record-at .result) false false false (at-record-at .record-at .ensures) (sym (at-if1 .if1 .left) ∙ at-is-bad-queue .is-bad-queue .ensures ∙ ap (λ (x : Action). badQueue x (at-record-at .record-at .result .declared .held)) (at-action-of .action-of .ensures)) (sym (c .before .before .if2 .left) ∙ at-next-differs .next-differs .ensures) (sym (c .if3 .left) ∙ c .before .target-differs .ensures) (entry .pre)
 
 pub check-rest-spec : {M : Type 1} → statement M
 check-rest-spec =

@@ -17,7 +17,9 @@ sub-result c = search needs
 
 -- src/lib.rt:208:9
 returns : tie.Need-returns
-returns c = nowhere-is (c .before .before .before .before .before .before .args .n) (c .before .before .before .before .before .before .args .g) (c .before .before .before .before .before .before .args .back .rule .parameter) _ (c .before .before .before .before .before .before .pre) (sym (c .before .before .is-aimed .ensures) ∙ c .before .if1 .taken)
+returns c =
+    let entry = c .before .before .before .before .before .before in
+    nowhere-is (entry .args .n) (entry .args .g) (entry .args .back .rule .parameter) _ (entry .pre) (sym (c .before .before .is-aimed .ensures) ∙ c .before .if1 .taken)
 
 -- src/lib.rt:201:1
 returns-2 : tie.Need-returns-2

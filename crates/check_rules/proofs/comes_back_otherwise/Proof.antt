@@ -19,7 +19,9 @@ is-aimed-requires c κs = search needs
 
 -- src/lib.rt:221:42
 add-record-at : tie.Need-add-record-at
-add-record-at c = let a = c .before .before .before .before .before .before .args in let h : a .g + a .back .rule .parameter ≤ count (now (a .s)) = comes-back (count (now (a .s))) (a .g + a .back .rule .parameter) _ (c .before .before .before .before .before .before .pre) (sym (c .before .before .is-aimed .ensures) ∙ c .before .if1 .taken) in omega arith
+add-record-at c =
+    let entry = c .before .before .before .before .before .before in
+    let a = entry .args in let h : a .g + a .back .rule .parameter ≤ count (now (a .s)) = comes-back (count (now (a .s))) (a .g + a .back .rule .parameter) _ (entry .pre) (sym (c .before .before .is-aimed .ensures) ∙ c .before .if1 .taken) in omega arith
 
 -- src/lib.rt:221:13
 record-at-requires : tie.Need-record-at-requires
@@ -43,7 +45,13 @@ declares-otherwise-requires c κs = search needs
 
 -- src/lib.rt:225:9
 returns : tie.Need-returns
-returns c = let a = c .before .before .before .before .before .before .before .before .before .before .before .before .before .args in c .declares-otherwise .ensures ∙ otherwise-is (recordOf (now (a .s))) (a .g + a .back .rule .parameter) (a .g) (a .back .declared .held) _ (c .before .before .before .before .before .before .record-at .result) (c .before .before .before .before .before .record-at2 .result) (sym (c .before .before .before .before .before .before .before .before .before .is-aimed .ensures) ∙ c .before .before .before .before .before .before .before .before .if1 .taken) (c .before .before .before .before .before .before .record-at .ensures) (c .before .before .before .before .before .record-at2 .ensures)
+returns c =
+    let at-record-at2 = c .before .before .before .before .before in
+    let at-record-at = at-record-at2 .before in
+    let at-if1 = at-record-at .before .before in
+    let at-is-aimed = at-if1 .before in
+    let entry = at-is-aimed .before .before .before .before in
+    let a = entry .args in c .declares-otherwise .ensures ∙ otherwise-is (recordOf (now (a .s))) (a .g + a .back .rule .parameter) (a .g) (a .back .declared .held) _ (at-record-at .record-at .result) (at-record-at2 .record-at2 .result) (sym (at-is-aimed .is-aimed .ensures) ∙ at-if1 .if1 .taken) (at-record-at .record-at .ensures) (at-record-at2 .record-at2 .ensures)
 
 -- src/lib.rt:214:1
 returns-2 : tie.Need-returns-2

@@ -15,7 +15,9 @@ cast-if2 c = search needs
 
 -- src/lib.rt:104:9
 returns-2 : tie.Need-returns-2
-returns-2 c = differs-depth (c .before .before .before .before .args .declared) _ _ (c .before .before .before .before .args .held) (c .before .before .if1 .left) (c .if2 .taken)
+returns-2 c =
+    let entry = c .before .before .before .before in
+    differs-depth (entry .args .declared) _ _ (entry .args .held) (c .before .before .if1 .left) (c .if2 .taken)
 
 -- src/lib.rt:106:5
 cast-result : tie.Need-cast-result
@@ -23,7 +25,10 @@ cast-result c = search needs
 
 -- src/lib.rt:97:1
 returns-3 : tie.Need-returns-3
-returns-3 c = differs-held (c .before .before .before .before .before .args .declared) _ _ (c .before .before .before .before .before .args .held) (c .before .before .before .if1 .left) (c .before .if2 .left)
+returns-3 c =
+    let at-if1 = c .before .before .before in
+    let entry = at-if1 .before .before in
+    differs-held (entry .args .declared) _ _ (entry .args .held) (at-if1 .if1 .left) (c .before .if2 .left)
 
 pub declares-otherwise-spec : {M : Type 1} → statement M
 declares-otherwise-spec = tie.close (tie.spec returns cast-if2 returns-2 cast-result returns-3)

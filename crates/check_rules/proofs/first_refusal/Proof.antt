@@ -100,7 +100,11 @@ loop-less c = omega arith
 
 -- src/lib.rt:385:13
 loop-again : tie.Need-loop-again Inv-loop μ-loop Inv-loop2 μ-loop2 Inv-rules μ-rules
-loop-again c = (omega arith, some-more (comesBackNowhere (now (c .before .before .before .before .before .before .before .before .before .before .before .before .before .before .before .args .s)) (count (now (c .before .before .before .before .before .before .before .before .before .before .before .before .before .before .before .args .s))) (c .before .before .before .before .before .before .before .before .before .before .before .record-at .result)) (c .before .before .before .loop .g) (c .before .before .before .loop .inv .1) (sym (c .before .comes-back-nowhere .ensures) ∙ c .if2 .left))
+loop-again c =
+    let at-loop = c .before .before .before in
+    let at-record-at = at-loop .before .before .before .before .before .before .before .before in
+    let entry = at-record-at .before .before .before .before in
+    (omega arith, some-more (comesBackNowhere (now (entry .args .s)) (count (now (entry .args .s))) (at-record-at .record-at .result)) (at-loop .loop .g) (at-loop .loop .inv .1) (sym (c .before .comes-back-nowhere .ensures) ∙ c .if2 .left))
 
 -- src/lib.rt:393:13
 loop2-holds : tie.Need-loop2-holds Inv-loop μ-loop Inv-loop2 μ-loop2 Inv-rules μ-rules
@@ -114,10 +118,13 @@ add-h c = omega arith
 comes-back-otherwise-requires :
     tie.Need-comes-back-otherwise-requires Inv-loop μ-loop Inv-loop2 μ-loop2 Inv-rules μ-rules
 comes-back-otherwise-requires c κs =
-    let s = now (c .before .before .before .before .before .before .before .before .before .before .before .before .before .before .before .args .s) in
-    let l = c .before .before .before .loop in
+    let at-loop = c .before .before .before in
+    let at-record-at = at-loop .before .before .before .before .before .before .before .before in
+    let entry = at-record-at .before .before .before .before in
+    let s = now (entry .args .s) in
+    let l = at-loop .loop in
     let e : l .g ≡ count s = omega (arith, l .inv .0, c .before .before .loop-test .left) in
-    some-false (comesBackNowhere s (count s) (c .before .before .before .before .before .before .before .before .before .before .before .record-at .result)) (count s) (rw e at (l .inv .1)) (c .before .loop2 .h + 1) (omega arith) (omega arith)
+    some-false (comesBackNowhere s (count s) (at-record-at .record-at .result)) (count s) (rw e at (l .inv .1)) (c .before .loop2 .h + 1) (omega arith) (omega arith)
 
 -- src/lib.rt:393:13
 loop2-less : tie.Need-loop2-less Inv-loop μ-loop Inv-loop2 μ-loop2 Inv-rules μ-rules
@@ -125,16 +132,23 @@ loop2-less c = omega arith
 
 -- src/lib.rt:393:13
 loop2-again : tie.Need-loop2-again Inv-loop μ-loop Inv-loop2 μ-loop2 Inv-rules μ-rules
-loop2-again c = (omega arith, some-more (comesBackOtherwise (now (c .before .before .before .before .before .before .before .before .before .before .before .before .before .before .before .before .before .args .s)) (c .before .before .before .before .before .before .before .before .before .before .before .before .before .record-at .result)) (c .before .before .before .loop2 .h) (c .before .before .before .loop2 .inv .1) (sym (c .before .comes-back-otherwise .ensures) ∙ c .if3 .left))
+loop2-again c =
+    let at-loop2 = c .before .before .before in
+    let at-record-at = at-loop2 .before .before .before .before .before .before .before .before .before .before in
+    let entry = at-record-at .before .before .before .before in
+    (omega arith, some-more (comesBackOtherwise (now (entry .args .s)) (at-record-at .record-at .result)) (at-loop2 .loop2 .h) (at-loop2 .loop2 .inv .1) (sym (c .before .comes-back-otherwise .ensures) ∙ c .if3 .left))
 
 -- behind the inner loops: each Gosub of a Return comes back at a rule, and at one that declares the same
 kept : (c : tie.Joined1 Inv-loop μ-loop Inv-loop2 μ-loop2 Inv-rules μ-rules)
     → (escapes (count (now (c .before .before .before .before .before .before .before .before .before .before .before .args .s))) (ruleOf (now (c .before .before .before .before .before .before .before .before .before .before .before .args .s))) (declaredOf (now (c .before .before .before .before .before .before .before .before .before .before .before .args .s))) (c .before .before .before .before .before .before .before .before .before .rules .i + 1) ≡ false)
     × (returnDiffers (count (now (c .before .before .before .before .before .before .before .before .before .before .before .args .s))) (ruleOf (now (c .before .before .before .before .before .before .before .before .before .before .before .args .s))) (declaredOf (now (c .before .before .before .before .before .before .before .before .before .before .before .args .s))) (c .before .before .before .before .before .before .before .before .before .rules .i + 1) ≡ false)
 kept c =
-    let s = now (c .before .before .before .before .before .before .before .before .before .before .before .args .s) in
-    let i = c .before .before .before .before .before .before .before .before .before .rules .i + 1 in
-    let own = c .before .before .before .before .before .before .before .record-at in
+    let at-record-at = c .before .before .before .before .before .before .before in
+    let at-rules = at-record-at .before .before in
+    let entry = at-rules .before .before in
+    let s = now (entry .args .s) in
+    let i = at-rules .rules .i + 1 in
+    let own = at-record-at .record-at in
     ⊎-elim
     (λ w.
     let e : w .1 .g ≡ count s = omega (arith, w .1 .inv .0, w .2 .left) in
@@ -158,9 +172,15 @@ rules-less c = omega arith
 -- src/lib.rt:375:5
 rules-again : tie.Need-rules-again Inv-loop μ-loop Inv-loop2 μ-loop2 Inv-rules μ-rules
 rules-again c =
-    let s = now (c .before .before .before .before .before .before .before .before .before .before .before .before .before .before .args .s) in
-    let i = c .before .before .before .before .before .before .before .before .before .before .before .before .rules .i in
-    (omega arith, c .enum-told3 .given .1, one-more (ruleCheck s) i (c .before .before .before .before .before .before .before .before .before .before .before .before .rules .inv .2) (goes-on s (i + 1) (c .before .before .before .before .before .before .before .before .before .before .record-at .result) (c .before .before .before .before .before .before .before .before .before .before .record-at .ensures) (sym (c .before .before .before .before .before .before .before .before .check-record .ensures) ∙ c .before .before .before .before .before .before .enum-told .given .1) (kept (c .before .before .before) .0) ∙ sym (c .before .before .check-rest .ensures) ∙ c .enum-told3 .given .1))
+    let at-3 = c .before .before .before in
+    let at-enum-told = at-3 .before .before .before in
+    let at-check-record = at-enum-told .before .before in
+    let at-record-at = at-check-record .before .before in
+    let at-rules = at-record-at .before .before in
+    let entry = at-rules .before .before in
+    let s = now (entry .args .s) in
+    let i = at-rules .rules .i in
+    (omega arith, c .enum-told3 .given .1, one-more (ruleCheck s) i (at-rules .rules .inv .2) (goes-on s (i + 1) (at-record-at .record-at .result) (at-record-at .record-at .ensures) (sym (at-check-record .check-record .ensures) ∙ at-enum-told .enum-told .given .1) (kept (at-3) .0) ∙ sym (c .before .before .check-rest .ensures) ∙ c .enum-told3 .given .1))
 
 -- src/lib.rt:403:13
 enum-told-4 : tie.Need-enum-told-4 Inv-loop μ-loop Inv-loop2 μ-loop2 Inv-rules μ-rules

@@ -27,11 +27,18 @@ is-gosub-requires c κs = search needs
 
 -- src/lib.rt:195:9
 returns : tie.Need-returns
-returns c = let s = now (c .before .before .before .before .before .before .before .args .s) in aims-is (recordOf s) (count s) (c .before .before .before .before .before .before .before .args .home) (c .before .before .before .before .before .before .before .args .g) (c .before .before .before .before .before .record-at .result) true (c .before .before .before .before .before .record-at .ensures) (sym (c .before .if1 .taken) ∙ c .before .before .is-gosub .ensures ∙ ap isGosub (c .before .before .before .action-of .ensures))
+returns c =
+    let at-action-of = c .before .before .before in
+    let at-record-at = at-action-of .before .before in
+    let entry = at-record-at .before .before in
+    let s = now (entry .args .s) in aims-is (recordOf s) (count s) (entry .args .home) (entry .args .g) (at-record-at .record-at .result) true (at-record-at .record-at .ensures) (sym (c .before .if1 .taken) ∙ c .before .before .is-gosub .ensures ∙ ap isGosub (at-action-of .action-of .ensures))
 
 -- src/lib.rt:189:1
 returns-2 : tie.Need-returns-2
-returns-2 c = let s = now (c .before .before .before .before .before .before .args .s) in aims-is (recordOf s) (count s) (c .before .before .before .before .before .before .args .home) (c .before .before .before .before .before .before .args .g) (c .before .before .before .before .record-at .result) false (c .before .before .before .before .record-at .ensures) (sym (c .if1 .left) ∙ c .before .is-gosub .ensures ∙ ap isGosub (c .before .before .action-of .ensures))
+returns-2 c =
+    let at-record-at = c .before .before .before .before in
+    let entry = at-record-at .before .before in
+    let s = now (entry .args .s) in aims-is (recordOf s) (count s) (entry .args .home) (entry .args .g) (at-record-at .record-at .result) false (at-record-at .record-at .ensures) (sym (c .if1 .left) ∙ c .before .is-gosub .ensures ∙ ap isGosub (c .before .before .action-of .ensures))
 
 pub is-aimed-spec : {M : Type 1} → statement M
 is-aimed-spec =

@@ -15,11 +15,15 @@ has-goto-flag-requires c κs = search needs
 
 -- src/lib.rt:143:13
 returns : tie.Need-returns
-returns c = target-behind (c .before .before .before .args .action) _ (c .before .before .before .args .i) (c .before .before .before .args .parameter) (sym (c .before .before .has-goto-flag .ensures) ∙ c .before .if1 .taken) (omega (arith, c .if2 .taken))
+returns c =
+    let entry = c .before .before .before in
+    target-behind (entry .args .action) _ (entry .args .i) (entry .args .parameter) (sym (c .before .before .has-goto-flag .ensures) ∙ c .before .if1 .taken) (omega (arith, c .if2 .taken))
 
 -- src/lib.rt:145:9
 returns-2 : tie.Need-returns-2
-returns-2 c = target-ahead (c .before .before .before .args .action) (c .before .before .before .args .n) (c .before .before .before .args .i) (c .before .before .before .args .parameter) (sym (c .before .before .has-goto-flag .ensures) ∙ c .before .if1 .taken) (omega (arith, c .if2 .left))
+returns-2 c =
+    let entry = c .before .before .before in
+    target-ahead (entry .args .action) (entry .args .n) (entry .args .i) (entry .args .parameter) (sym (c .before .before .has-goto-flag .ensures) ∙ c .before .if1 .taken) (omega (arith, c .if2 .left))
 
 -- src/lib.rt:147:8
 is-return-requires : tie.Need-is-return-requires
@@ -27,7 +31,10 @@ is-return-requires c κs = search needs
 
 -- src/lib.rt:148:9
 returns-3 : tie.Need-returns-3
-returns-3 c = target-of-return (c .before .before .before .before .args .action) _ _ (c .before .before .before .before .args .parameter) (sym (c .before .before .before .has-goto-flag .ensures) ∙ c .before .before .if1 .left) (sym (c .before .is-return .ensures) ∙ c .if3 .taken)
+returns-3 c =
+    let at-has-goto-flag = c .before .before .before in
+    let entry = at-has-goto-flag .before in
+    target-of-return (entry .args .action) _ _ (entry .args .parameter) (sym (at-has-goto-flag .has-goto-flag .ensures) ∙ c .before .before .if1 .left) (sym (c .before .is-return .ensures) ∙ c .if3 .taken)
 
 -- src/lib.rt:138:1
 returns-4 : tie.Need-returns-4

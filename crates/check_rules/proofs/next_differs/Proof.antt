@@ -26,7 +26,11 @@ are-both-zero-requires c κs = search needs
 
 -- src/lib.rt:281:9
 returns-2 : tie.Need-returns-2
-returns-2 c = let a = c .before .before .before .before .before .before .args in next-is (recordOf (now (a .s))) (a .n) (a .i) (c .before .before .before .record-at .result) _ true (c .before .before .before .before .if1 .left) (c .before .before .before .record-at .ensures) (sym (c .if2 .taken) ∙ c .before .are-both-zero .ensures) refl
+returns-2 c =
+    let at-record-at = c .before .before .before in
+    let at-if1 = at-record-at .before in
+    let entry = at-if1 .before .before in
+    let a = entry .args in next-is (recordOf (now (a .s))) (a .n) (a .i) (at-record-at .record-at .result) _ true (at-if1 .if1 .left) (at-record-at .record-at .ensures) (sym (c .if2 .taken) ∙ c .before .are-both-zero .ensures) refl
 
 -- src/lib.rt:283:36
 add-record-at : tie.Need-add-record-at
@@ -50,7 +54,14 @@ declares-otherwise-requires c κs = search needs
 
 -- src/lib.rt:272:1
 returns-3 : tie.Need-returns-3
-returns-3 c = let a = c .before .before .before .before .before .before .before .before .before .before .before .before .args in c .declares-otherwise .ensures ∙ next-is (recordOf (now (a .s))) (a .n) (a .i) (c .before .before .before .before .before .before .before .before .before .record-at .result) (c .before .before .before .before .before .record-at2 .result) false (c .before .before .before .before .before .before .before .before .before .before .if1 .left) (c .before .before .before .before .before .before .before .before .before .record-at .ensures) (sym (c .before .before .before .before .before .before .if2 .left) ∙ c .before .before .before .before .before .before .before .are-both-zero .ensures) (c .before .before .before .before .before .record-at2 .ensures)
+returns-3 c =
+    let at-record-at2 = c .before .before .before .before .before in
+    let at-if2 = at-record-at2 .before in
+    let at-are-both-zero = at-if2 .before in
+    let at-record-at = at-are-both-zero .before .before in
+    let at-if1 = at-record-at .before in
+    let entry = at-if1 .before .before in
+    let a = entry .args in c .declares-otherwise .ensures ∙ next-is (recordOf (now (a .s))) (a .n) (a .i) (at-record-at .record-at .result) (at-record-at2 .record-at2 .result) false (at-if1 .if1 .left) (at-record-at .record-at .ensures) (sym (at-if2 .if2 .left) ∙ at-are-both-zero .are-both-zero .ensures) (at-record-at2 .record-at2 .ensures)
 
 pub next-differs-spec : {M : Type 1} → statement M
 next-differs-spec =

@@ -55,7 +55,16 @@ declares-otherwise-requires c κs = search needs
 
 -- src/lib.rt:307:13
 returns : tie.Need-returns
-returns c = let a = c .before .before .before .before .before .before .before .before .before .before .before .before .before .before .args in c .declares-otherwise .ensures ∙ gosub-target (recordOf (now (a .s))) (count (now (a .s))) (a .i) (c .before .before .before .before .before .before .before .before .before .before .before .before .record-at .result) (c .before .before .before .before .before .before .record-at2 .result) (c .before .before .before .before .before .before .before .before .before .before .before .before .record-at .ensures) (c .before .before .before .before .before .before .record-at2 .ensures) (ap gotoFlag (sym (c .before .before .before .before .before .before .before .before .before .action-of .ensures)) ∙ sym (c .before .before .before .before .before .before .before .before .has-goto-flag .ensures) ∙ c .before .before .before .before .before .before .before .if1 .taken) (ap isGosub (sym (c .before .before .before .before .before .before .before .before .before .action-of .ensures)) ∙ sym (c .before .before .before .before .is-gosub .ensures) ∙ c .before .before .before .if2 .taken)
+returns c =
+    let at-if2 = c .before .before .before in
+    let at-is-gosub = at-if2 .before in
+    let at-record-at2 = at-is-gosub .before .before in
+    let at-if1 = at-record-at2 .before in
+    let at-has-goto-flag = at-if1 .before in
+    let at-action-of = at-has-goto-flag .before in
+    let at-record-at = at-action-of .before .before .before in
+    let entry = at-record-at .before .before in
+    let a = entry .args in c .declares-otherwise .ensures ∙ gosub-target (recordOf (now (a .s))) (count (now (a .s))) (a .i) (at-record-at .record-at .result) (at-record-at2 .record-at2 .result) (at-record-at .record-at .ensures) (at-record-at2 .record-at2 .ensures) (ap gotoFlag (sym (at-action-of .action-of .ensures)) ∙ sym (at-has-goto-flag .has-goto-flag .ensures) ∙ at-if1 .if1 .taken) (ap isGosub (sym (at-action-of .action-of .ensures)) ∙ sym (at-is-gosub .is-gosub .ensures) ∙ at-if2 .if2 .taken)
 
 -- src/lib.rt:317:13
 cast-declares-otherwise-3 : tie.Need-cast-declares-otherwise-3
@@ -63,7 +72,11 @@ cast-declares-otherwise-3 c = search needs
 
 -- src/lib.rt:318:13
 held-after-requires : tie.Need-held-after-requires
-held-after-requires c κs = held-fine (recordOf (now (c .before .before .before .before .before .before .before .before .before .before .before .before .args .s))) (c .before .before .before .before .before .before .before .before .before .before .before .before .args .i) (c .before .before .before .before .before .before .before .before .before .before .record-at .result) _ (c .before .before .before .before .before .before .before .before .before .before .record-at .ensures) (c .before .before .before .before .before .before .before .action-of .ensures) (c .before .before .before .before .before .before .before .before .before .before .before .before .pre)
+held-after-requires c κs =
+    let at-action-of = c .before .before .before .before .before .before .before in
+    let at-record-at = at-action-of .before .before .before in
+    let entry = at-record-at .before .before in
+    held-fine (recordOf (now (entry .args .s))) (entry .args .i) (at-record-at .record-at .result) _ (at-record-at .record-at .ensures) (at-action-of .action-of .ensures) (entry .pre)
 
 -- src/lib.rt:314:9
 declares-otherwise-requires-2 : tie.Need-declares-otherwise-requires-2
@@ -71,11 +84,23 @@ declares-otherwise-requires-2 c κs = search needs
 
 -- src/lib.rt:314:9
 returns-2 : tie.Need-returns-2
-returns-2 c = let a = c .before .before .before .before .before .before .before .before .before .before .before .before .before .before .args in c .declares-otherwise2 .ensures ∙ ap (differs (c .before .before .before .before .before .before .record-at2 .result .declared) (c .before .before .before .before .before .before .before .before .before .before .before .before .record-at .result .declared .home) (c .before .before .before .before .before .before .before .before .before .before .before .before .record-at .result .declared .depth)) (c .before .held-after .ensures ∙ ap (λ (x : Action). heldAfter x (c .before .before .before .before .before .before .before .before .before .before .before .before .record-at .result .declared .held)) (c .before .before .before .before .before .before .before .before .before .action-of .ensures)) ∙ other-target (recordOf (now (a .s))) (count (now (a .s))) (a .i) (c .before .before .before .before .before .before .before .before .before .before .before .before .record-at .result) (c .before .before .before .before .before .before .record-at2 .result) (c .before .before .before .before .before .before .before .before .before .before .before .before .record-at .ensures) (c .before .before .before .before .before .before .record-at2 .ensures) (ap gotoFlag (sym (c .before .before .before .before .before .before .before .before .before .action-of .ensures)) ∙ sym (c .before .before .before .before .before .before .before .before .has-goto-flag .ensures) ∙ c .before .before .before .before .before .before .before .if1 .taken) (ap isGosub (sym (c .before .before .before .before .before .before .before .before .before .action-of .ensures)) ∙ sym (c .before .before .before .before .is-gosub .ensures) ∙ c .before .before .before .if2 .left)
+returns-2 c =
+    let at-if2 = c .before .before .before in
+    let at-is-gosub = at-if2 .before in
+    let at-record-at2 = at-is-gosub .before .before in
+    let at-if1 = at-record-at2 .before in
+    let at-has-goto-flag = at-if1 .before in
+    let at-action-of = at-has-goto-flag .before in
+    let at-record-at = at-action-of .before .before .before in
+    let entry = at-record-at .before .before in
+    let a = entry .args in c .declares-otherwise2 .ensures ∙ ap (differs (at-record-at2 .record-at2 .result .declared) (at-record-at .record-at .result .declared .home) (at-record-at .record-at .result .declared .depth)) (c .before .held-after .ensures ∙ ap (λ (x : Action). heldAfter x (at-record-at .record-at .result .declared .held)) (at-action-of .action-of .ensures)) ∙ other-target (recordOf (now (a .s))) (count (now (a .s))) (a .i) (at-record-at .record-at .result) (at-record-at2 .record-at2 .result) (at-record-at .record-at .ensures) (at-record-at2 .record-at2 .ensures) (ap gotoFlag (sym (at-action-of .action-of .ensures)) ∙ sym (at-has-goto-flag .has-goto-flag .ensures) ∙ at-if1 .if1 .taken) (ap isGosub (sym (at-action-of .action-of .ensures)) ∙ sym (at-is-gosub .is-gosub .ensures) ∙ at-if2 .if2 .left)
 
 -- src/lib.rt:295:1
 returns-3 : tie.Need-returns-3
-returns-3 c = let a = c .before .before .before .before .before .before .before .args in no-target (recordOf (now (a .s))) (count (now (a .s))) (a .i) (c .before .before .before .before .before .record-at .result) (c .before .before .before .before .before .record-at .ensures) (ap gotoFlag (sym (c .before .before .action-of .ensures)) ∙ sym (c .before .has-goto-flag .ensures) ∙ c .if1 .left)
+returns-3 c =
+    let at-record-at = c .before .before .before .before .before in
+    let entry = at-record-at .before .before in
+    let a = entry .args in no-target (recordOf (now (a .s))) (count (now (a .s))) (a .i) (at-record-at .record-at .result) (at-record-at .record-at .ensures) (ap gotoFlag (sym (c .before .before .action-of .ensures)) ∙ sym (c .before .has-goto-flag .ensures) ∙ c .if1 .left)
 
 pub target-differs-spec : {M : Type 1} → statement M
 target-differs-spec =

@@ -27,7 +27,10 @@ pass-body-requires : tie.Need-pass-body-requires
 pass-body-requires c κs = search needs
 
 returns-4 : tie.Need-returns-4
-returns-4 c = c .pass-body .ensures ∙ sym (body-passed _ _ _ _ (sym (c .before .before .before .before .before .before .read-word .ensures) ∙ c .before .before .before .before .version .given .1) (version-listed _ (c .before .before .if1 .left) (c .before .if2 .left)))
+returns-4 c =
+    let at-version = c .before .before .before .before in
+    let at-read-word = at-version .before .before in
+    c .pass-body .ensures ∙ sym (body-passed _ _ _ _ (sym (at-read-word .read-word .ensures) ∙ at-version .version .given .1) (version-listed _ (c .before .before .if1 .left) (c .before .if2 .left)))
 
 pub pass-counters-spec : {M : Type 1} → statement M
 pass-counters-spec =

@@ -33,10 +33,22 @@ enum-known-why : tie.Need-enum-known-why
 enum-known-why c = search needs
 
 returns-4 : tie.Need-returns-4
-returns-4 c = sym (ap asCounterBody (body-found _ _ _ _ (sym (c .before .before .before .before .before .before .before .before .before .read-word .ensures) ∙ c .before .before .before .before .before .before .before .version .given .1) (version-listed _ (c .before .before .before .before .before .if1 .left) (c .before .before .before .before .if2 .left)) _ (sym (c .before .before .before .pass-body .ensures) ∙ c .before .next .given .1)))
+returns-4 c =
+    let at-pass-body = c .before .before .before in
+    let at-if2 = at-pass-body .before in
+    let at-if1 = at-if2 .before in
+    let at-version = at-if1 .before .before in
+    let at-read-word = at-version .before .before in
+    sym (ap asCounterBody (body-found _ _ _ _ (sym (at-read-word .read-word .ensures) ∙ at-version .version .given .1) (version-listed _ (at-if1 .if1 .left) (at-if2 .if2 .left)) _ (sym (at-pass-body .pass-body .ensures) ∙ c .before .next .given .1)))
 
 returns-5 : tie.Need-returns-5
-returns-5 c = sym (ap asCounterBody (body-refused _ _ _ _ (sym (c .before .before .before .before .before .before .before .before .before .read-word .ensures) ∙ c .before .before .before .before .before .before .before .version .given .1) (version-listed _ (c .before .before .before .before .before .if1 .left) (c .before .before .before .before .if2 .left)) _ _ (sym (c .before .before .before .pass-body .ensures) ∙ c .before .why .given .1)))
+returns-5 c =
+    let at-pass-body = c .before .before .before in
+    let at-if2 = at-pass-body .before in
+    let at-if1 = at-if2 .before in
+    let at-version = at-if1 .before .before in
+    let at-read-word = at-version .before .before in
+    sym (ap asCounterBody (body-refused _ _ _ _ (sym (at-read-word .read-word .ensures) ∙ at-version .version .given .1) (version-listed _ (at-if1 .if1 .left) (at-if2 .if2 .left)) _ _ (sym (at-pass-body .pass-body .ensures) ∙ c .before .why .given .1)))
 
 pub read-counter-body-spec : {M : Type 1} → statement M
 read-counter-body-spec =

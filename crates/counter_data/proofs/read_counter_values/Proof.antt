@@ -55,7 +55,10 @@ no-values-requires-2 : tie.Need-no-values-requires-2
 no-values-requires-2 c κs = search needs
 
 returns-2 : tie.Need-returns-2
-returns-2 c = ⊎-elim (λ e. c .read-values .ensures ∙ sym (values-arm _ _ _ _ 1 (sym (c .before .before .before .before .before .before .read-word .ensures) ∙ c .before .before .before .before .version .given .1) e refl)) (⊎-elim (λ e. c .read-values .ensures ∙ sym (values-arm _ _ _ _ 4 (sym (c .before .before .before .before .before .before .read-word .ensures) ∙ c .before .before .before .before .version .given .1) e refl)) (λ e. c .read-values .ensures ∙ sym (values-arm _ _ _ _ 6 (sym (c .before .before .before .before .before .before .read-word .ensures) ∙ c .before .before .before .before .version .given .1) e refl))) (c .before .before .match2 .keys1)
+returns-2 c =
+    let at-version = c .before .before .before .before in
+    let at-read-word = at-version .before .before in
+    ⊎-elim (λ e. c .read-values .ensures ∙ sym (values-arm _ _ _ _ 1 (sym (at-read-word .read-word .ensures) ∙ at-version .version .given .1) e refl)) (⊎-elim (λ e. c .read-values .ensures ∙ sym (values-arm _ _ _ _ 4 (sym (at-read-word .read-word .ensures) ∙ at-version .version .given .1) e refl)) (λ e. c .read-values .ensures ∙ sym (values-arm _ _ _ _ 6 (sym (at-read-word .read-word .ensures) ∙ at-version .version .given .1) e refl))) (c .before .before .match2 .keys1)
 
 returns-3 : tie.Need-returns-3
 returns-3 c = c .read-values2 .ensures ∙ sym (values-arm _ _ _ _ 2 (sym (c .before .before .before .before .before .before .read-word .ensures) ∙ c .before .before .before .before .version .given .1) (c .before .before .match2 .keys2) refl)

@@ -32,7 +32,12 @@ no-values-requires : tie.Need-no-values-requires Inv-loop μ-loop
 no-values-requires c κs = search needs
 
 returns : tie.Need-returns Inv-loop μ-loop
-returns c = c .no-values .ensures ∙ sym (progress-cut _ _ _ _ _ _ _ _ (c .before .before .before .before .before .before .loop .inv) (c .before .before .before .before .before .loop-test .taken) (c .before .before .before .before .before .before .before .before .before .pre .1) (sym (c .before .before .before .read-counter .ensures) ∙ c .before .enum-told .given .1))
+returns c =
+    let at-read-counter = c .before .before .before in
+    let at-loop-test = at-read-counter .before .before in
+    let at-loop = at-loop-test .before in
+    let at-pre = at-loop .before .before .before in
+    c .no-values .ensures ∙ sym (progress-cut _ _ _ _ _ _ _ _ (at-loop .loop .inv) (at-loop-test .loop-test .taken) (at-pre .pre .1) (sym (at-read-counter .read-counter .ensures) ∙ c .before .enum-told .given .1))
 
 mul-numbers : tie.Need-mul-numbers Inv-loop μ-loop
 mul-numbers c = search needs
@@ -47,7 +52,12 @@ loop-less : tie.Need-loop-less Inv-loop μ-loop
 loop-less c = search needs
 
 loop-again : tie.Need-loop-again Inv-loop μ-loop
-loop-again c = progress-step _ _ _ _ _ _ _ _ (c .before .before .before .before .before .before .loop .inv) (c .before .before .before .before .before .loop-test .taken) (c .before .before .before .before .before .before .before .before .before .pre) (sym (c .before .before .before .read-counter .ensures) ∙ c .before .v .given .1)
+loop-again c =
+    let at-read-counter = c .before .before .before in
+    let at-loop-test = at-read-counter .before .before in
+    let at-loop = at-loop-test .before in
+    let at-pre = at-loop .before .before .before in
+    progress-step _ _ _ _ _ _ _ _ (at-loop .loop .inv) (at-loop-test .loop-test .taken) (at-pre .pre) (sym (at-read-counter .read-counter .ensures) ∙ c .before .v .given .1)
 
 returns-2 : tie.Need-returns-2 Inv-loop μ-loop
 returns-2 c = sym (progress-found _ _ _ _ _ _ _ (c .before .loop .inv) (c .loop-test .left))

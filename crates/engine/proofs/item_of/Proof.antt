@@ -33,11 +33,19 @@ queues-packet-requires c κs = search needs
 
 -- src/lib.rt:314:9
 returns : tie.Need-returns
-returns c = by-packet (ruleOf (now (c .before .before .before .before .before .before .before .before .args .s))) (attribute (c .before .before .before .before .before .before .before .before .args .a)) (c .before .before .before .before .before .before .before .before .args .i) _ (ap (λ (x : RuleRecord). x .rule) (c .before .before .before .before .before .before .record-at .ensures)) _ (c .before .before .before .before .attribute .ensures) (search needs) (sym (ap queuesPacket (c .before .before .before .action-of .ensures)) ∙ sym (c .before .before .queues-packet .ensures) ∙ c .before .if1 .taken)
+returns c =
+    let at-action-of = c .before .before .before in
+    let at-attribute = at-action-of .before in
+    let at-record-at = at-attribute .before .before in
+    let entry = at-record-at .before .before in
+    by-packet (ruleOf (now (entry .args .s))) (attribute (entry .args .a)) (entry .args .i) _ (ap (λ (x : RuleRecord). x .rule) (at-record-at .record-at .ensures)) _ (at-attribute .attribute .ensures) (search needs) (sym (ap queuesPacket (at-action-of .action-of .ensures)) ∙ sym (c .before .before .queues-packet .ensures) ∙ c .before .if1 .taken)
 
 -- src/lib.rt:306:1
 returns-2 : tie.Need-returns-2
-returns-2 c = by-rule (ruleOf (now (c .before .before .before .before .before .before .before .args .s))) (attribute (c .before .before .before .before .before .before .before .args .a)) (c .before .before .before .before .before .before .before .args .i) _ (ap (λ (x : RuleRecord). x .rule) (c .before .before .before .before .before .record-at .ensures)) (sym (ap queuesPacket (c .before .before .action-of .ensures)) ∙ sym (c .before .queues-packet .ensures) ∙ c .if1 .left)
+returns-2 c =
+    let at-record-at = c .before .before .before .before .before in
+    let entry = at-record-at .before .before in
+    by-rule (ruleOf (now (entry .args .s))) (attribute (entry .args .a)) (entry .args .i) _ (ap (λ (x : RuleRecord). x .rule) (at-record-at .record-at .ensures)) (sym (ap queuesPacket (c .before .before .action-of .ensures)) ∙ sym (c .before .queues-packet .ensures) ∙ c .if1 .left)
 
 pub item-of-spec : {M : Type 1} → statement M
 item-of-spec =

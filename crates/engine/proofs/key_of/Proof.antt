@@ -67,7 +67,10 @@ loop-less c = omega arith
 
 -- src/lib.rt:360:5
 loop-again : tie.Need-loop-again Inv-loop μ-loop
-loop-again c = (omega arith, c .put-item .ensures ∙ ap (λ (k : FlowKey). put k (c .before .item-of .result)) (c .before .before .before .before .before .loop .inv .1) ∙ ap (put (keyOf (map (itemOf (ruleOf (now (c .before .before .before .before .before .before .before .before .args .s))) (attribute (c .before .before .before .before .before .before .before .before .args .a))) (stackOf (c .before .before .before .before .before .before .before .before .args .t3 .queue) (c .before .before .before .before .before .loop .j))))) (c .before .item-of .ensures ∙ ap (itemOf (ruleOf (now (c .before .before .before .before .before .before .before .before .args .s))) (attribute (c .before .before .before .before .before .before .before .before .args .a))) (c .before .before .wide .ensures .0)) ∙ sym (key-more (itemOf (ruleOf (now (c .before .before .before .before .before .before .before .before .args .s))) (attribute (c .before .before .before .before .before .before .before .before .args .a))) (c .before .before .before .before .before .before .before .before .args .t3 .queue) (c .before .before .before .before .before .loop .j)))
+loop-again c =
+    let at-loop = c .before .before .before .before .before in
+    let entry = at-loop .before .before .before in
+    (omega arith, c .put-item .ensures ∙ ap (λ (k : FlowKey). put k (c .before .item-of .result)) (at-loop .loop .inv .1) ∙ ap (put (keyOf (map (itemOf (ruleOf (now (entry .args .s))) (attribute (entry .args .a))) (stackOf (entry .args .t3 .queue) (at-loop .loop .j))))) (c .before .item-of .ensures ∙ ap (itemOf (ruleOf (now (entry .args .s))) (attribute (entry .args .a))) (c .before .before .wide .ensures .0)) ∙ sym (key-more (itemOf (ruleOf (now (entry .args .s))) (attribute (entry .args .a))) (entry .args .t3 .queue) (at-loop .loop .j)))
 
 -- src/lib.rt:353:1
 returns : tie.Need-returns Inv-loop μ-loop

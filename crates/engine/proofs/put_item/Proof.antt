@@ -31,11 +31,15 @@ element-write-r-2 c = search needs
 
 -- src/lib.rt:337:1
 returns-2 : tie.Need-returns-2
-returns-2 c = put-some (c .before .before .before .args .k) (c .before .before .before .args .x) (c .before .if1 .left)
+returns-2 c =
+    let entry = c .before .before .before in
+    put-some (entry .args .k) (entry .args .x) (c .before .if1 .left)
 
 -- src/lib.rt:337:1
 returns-3 : tie.Need-returns-3
-returns-3 c = put-out (c .before .before .before .args .k) (c .before .before .before .args .x) (c .before .if1 .left) (c .if2 .left) (search needs) (search needs)
+returns-3 c =
+    let entry = c .before .before .before in
+    put-out (entry .args .k) (entry .args .x) (c .before .if1 .left) (c .if2 .left) (search needs) (search needs)
 
 pub put-item-spec : {M : Type 1} → statement M
 put-item-spec =

@@ -11,7 +11,9 @@ returns c = null-test (c .before .before .args .r) (c .before .before .args .v) 
 
 -- src/lib.rt:205:1
 returns-2 : tie.Need-returns-2
-returns-2 c = mask-test (c .before .before .before .before .args .r) (c .before .before .before .before .args .v) (search needs) (c .before .before .if1 .left)
+returns-2 c =
+    let entry = c .before .before .before .before in
+    mask-test (entry .args .r) (entry .args .v) (search needs) (c .before .before .if1 .left)
 
 pub rule-passes-spec : {M : Type 1} → statement M
 rule-passes-spec = tie.close (tie.spec returns returns-2)

@@ -32,11 +32,17 @@ refused-requires c κs = search needs
 
 -- src/lib.rt:427:1
 returns : tie.Need-returns
-returns c = c .run-accepted .ensures ∙ accepted-result (now (c .before .before .before .before .before .before .args .s)) (now (c .before .before .before .before .before .before .args .x)) (sym (c .before .before .before .check .ensures) ∙ c .before .enum-told .given .1)
+returns c =
+    let at-check = c .before .before .before in
+    let entry = at-check .before .before .before in
+    c .run-accepted .ensures ∙ accepted-result (now (entry .args .s)) (now (entry .args .x)) (sym (at-check .check .ensures) ∙ c .before .enum-told .given .1)
 
 -- src/lib.rt:427:1
 returns-2 : tie.Need-returns-2
-returns-2 c = c .refused .ensures ∙ refused-result (now (c .before .before .before .before .before .before .before .args .s)) (now (c .before .before .before .before .before .before .before .args .x)) _ _ (sym (c .before .before .before .before .check .ensures) ∙ c .before .before .why .given .1)
+returns-2 c =
+    let at-check = c .before .before .before .before in
+    let entry = at-check .before .before .before in
+    c .refused .ensures ∙ refused-result (now (entry .args .s)) (now (entry .args .x)) _ _ (sym (at-check .check .ensures) ∙ c .before .before .why .given .1)
 
 pub run-spec : {M : Type 1} → statement M
 run-spec =

@@ -29,7 +29,10 @@ refused-requires c κs = search needs
 
 -- src/lib.rt:414:9
 returns : tie.Need-returns
-returns c = c .refused .ensures ∙ ap (ofSample (now (c .before .before .before .before .before .before .args .s)) (now (c .before .before .before .before .before .before .args .x))) (not-a-sample (now (c .before .before .before .before .before .before .args .x)) _ _ (sym (c .before .before .before .read-sample .ensures) ∙ c .before .enum-told .given .1))
+returns c =
+    let at-read-sample = c .before .before .before in
+    let entry = at-read-sample .before .before .before in
+    c .refused .ensures ∙ ap (ofSample (now (entry .args .s)) (now (entry .args .x))) (not-a-sample (now (entry .args .x)) _ _ (sym (at-read-sample .read-sample .ensures) ∙ c .before .enum-told .given .1))
 
 -- src/lib.rt:417:9
 refused-requires-2 : tie.Need-refused-requires-2
@@ -37,7 +40,11 @@ refused-requires-2 c κs = search needs
 
 -- src/lib.rt:417:9
 returns-2 : tie.Need-returns-2
-returns-2 c = c .refused2 .ensures ∙ ap (ofSample (now (c .before .before .before .before .before .before .before .before .args .s)) (now (c .before .before .before .before .before .before .before .before .args .x))) (not-all (now (c .before .before .before .before .before .before .before .before .args .x)) _ _ (sym (c .before .before .before .before .before .read-sample .ensures) ∙ c .before .before .before .found .given .1) (c .before .if1 .taken))
+returns-2 c =
+    let at-found = c .before .before .before in
+    let at-read-sample = at-found .before .before in
+    let entry = at-read-sample .before .before .before in
+    c .refused2 .ensures ∙ ap (ofSample (now (entry .args .s)) (now (entry .args .x))) (not-all (now (entry .args .x)) _ _ (sym (at-read-sample .read-sample .ensures) ∙ at-found .found .given .1) (c .before .if1 .taken))
 
 -- src/lib.rt:421:28
 enum-known-values : tie.Need-enum-known-values
@@ -57,11 +64,21 @@ refused-requires-3 c κs = search needs
 
 -- src/lib.rt:409:1
 returns-3 : tie.Need-returns-3
-returns-3 c = c .run-flow .ensures ∙ ap (ofSample (now (c .before .before .before .before .before .before .before .before .before .before .before .args .s)) (now (c .before .before .before .before .before .before .before .before .before .before .before .args .x))) (a-flow (now (c .before .before .before .before .before .before .before .before .before .before .before .args .x)) _ _ (sym (c .before .before .before .before .before .before .before .before .read-sample .ensures) ∙ c .before .before .before .before .before .before .found .given .1) (c .before .before .before .before .if1 .left) _ (c .before .before .values .given .1))
+returns-3 c =
+    let at-if1 = c .before .before .before .before in
+    let at-found = at-if1 .before .before in
+    let at-read-sample = at-found .before .before in
+    let entry = at-read-sample .before .before .before in
+    c .run-flow .ensures ∙ ap (ofSample (now (entry .args .s)) (now (entry .args .x))) (a-flow (now (entry .args .x)) _ _ (sym (at-read-sample .read-sample .ensures) ∙ at-found .found .given .1) (at-if1 .if1 .left) _ (c .before .before .values .given .1))
 
 -- src/lib.rt:409:1
 returns-4 : tie.Need-returns-4
-returns-4 c = c .refused3 .ensures ∙ ap (ofSample (now (c .before .before .before .before .before .before .before .before .before .before .args .s)) (now (c .before .before .before .before .before .before .before .before .before .before .args .x))) (no-flow (now (c .before .before .before .before .before .before .before .before .before .before .args .x)) _ _ (sym (c .before .before .before .before .before .before .before .read-sample .ensures) ∙ c .before .before .before .before .before .found .given .1) (c .before .before .before .if1 .left) _ (c .before .enum-told2 .given .1))
+returns-4 c =
+    let at-if1 = c .before .before .before in
+    let at-found = at-if1 .before .before in
+    let at-read-sample = at-found .before .before in
+    let entry = at-read-sample .before .before .before in
+    c .refused3 .ensures ∙ ap (ofSample (now (entry .args .s)) (now (entry .args .x))) (no-flow (now (entry .args .x)) _ _ (sym (at-read-sample .read-sample .ensures) ∙ at-found .found .given .1) (at-if1 .if1 .left) _ (c .before .enum-told2 .given .1))
 
 pub run-accepted-spec : {M : Type 1} → statement M
 run-accepted-spec =

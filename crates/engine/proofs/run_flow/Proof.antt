@@ -23,7 +23,9 @@ run-machine-requires c κs = search needs
 
 -- src/lib.rt:399:9
 key-of-requires : tie.Need-key-of-requires
-key-of-requires c κs = final-held (now (c .before .before .before .before .args .s)) (c .before .before .before .before .pre) (attribute (c .before .attributes-of .result)) (c .run-machine .result) (c .run-machine .ensures)
+key-of-requires c κs =
+    let entry = c .before .before .before .before in
+    final-held (now (entry .args .s)) (entry .pre) (attribute (c .before .attributes-of .result)) (c .run-machine .result) (c .run-machine .ensures)
 
 -- src/lib.rt:400:9
 answer-of-requires : tie.Need-answer-of-requires
@@ -31,7 +33,11 @@ answer-of-requires c κs = search needs
 
 -- src/lib.rt:393:1
 returns : tie.Need-returns
-returns c = flow-result (now (c .before .before .before .before .before .before .args .s)) (now (c .before .before .before .before .before .before .args .x)) (c .before .before .before .before .before .before .args .f) (c .before .before .before .attributes-of .result) (c .before .before .before .attributes-of .ensures) (c .before .before .before .before .before .before .pre) (c .before .before .run-machine .result) (c .before .before .run-machine .ensures) (record { answer = c .answer-of .result; key = c .before .key-of .result; rules = c .before .before .run-machine .result .rules }) (c .answer-of .ensures) (c .before .key-of .ensures) refl
+returns c =
+    let at-run-machine = c .before .before in
+    let at-attributes-of = at-run-machine .before in
+    let entry = at-attributes-of .before .before .before in
+    flow-result (now (entry .args .s)) (now (entry .args .x)) (entry .args .f) (at-attributes-of .attributes-of .result) (at-attributes-of .attributes-of .ensures) (entry .pre) (at-run-machine .run-machine .result) (at-run-machine .run-machine .ensures) (record { answer = c .answer-of .result; key = c .before .key-of .result; rules = at-run-machine .run-machine .result .rules }) (c .answer-of .ensures) (c .before .key-of .ensures) refl
 
 pub run-flow-spec : {M : Type 1} → statement M
 run-flow-spec =

@@ -35,7 +35,11 @@ next-rule-requires c κs = c .before .before .before .before .before .before .pr
 
 -- src/lib.rt:249:9
 returns : tie.Need-returns
-returns c = ap (outcomeOf (ruleOf (now (c .before .before .before .before .before .before .before .args .s))) (attribute (c .before .before .before .before .before .before .before .args .a))) (c .next-rule .ensures) ∙ step-failed (c .before .before .before .before .before .before .before .args .n) (ruleOf (now (c .before .before .before .before .before .before .before .args .s))) (attribute (c .before .before .before .before .before .before .before .args .a)) (c .before .before .before .before .before .before .before .args .m) (c .before .before .before .before .before .before .before .pre) (rw (← (ap (λ (x : RuleRecord). x .rule) (c .before .before .before .before .before .record-at .ensures)), ← (c .before .before .before .attribute .ensures)) (sym (c .before .before .test-fails .ensures) ∙ c .before .if1 .taken))
+returns c =
+    let at-attribute = c .before .before .before in
+    let at-record-at = at-attribute .before .before in
+    let entry = at-record-at .before .before in
+    ap (outcomeOf (ruleOf (now (entry .args .s))) (attribute (entry .args .a))) (c .next-rule .ensures) ∙ step-failed (entry .args .n) (ruleOf (now (entry .args .s))) (attribute (entry .args .a)) (entry .args .m) (entry .pre) (rw (← (ap (λ (x : RuleRecord). x .rule) (at-record-at .record-at .ensures)), ← (at-attribute .attribute .ensures)) (sym (c .before .before .test-fails .ensures) ∙ c .before .if1 .taken))
 
 -- src/lib.rt:251:9
 action-of-requires : tie.Need-action-of-requires
@@ -47,7 +51,12 @@ acts-requires c κs = let p = c .before .before .before .before .before .before 
 
 -- src/lib.rt:241:1
 returns-2 : tie.Need-returns-2
-returns-2 c = ap (outcomeOf (ruleOf (now (c .before .before .before .before .before .before .before .before .args .s))) (attribute (c .before .before .before .before .before .before .before .before .args .a))) (c .acts .ensures) ∙ rw (c .before .action-of .ensures, (ap (λ (x : RuleRecord). x .rule) (c .before .before .before .before .before .before .record-at .ensures))) (step-acted (c .before .before .before .before .before .before .before .before .args .n) (ruleOf (now (c .before .before .before .before .before .before .before .before .args .s))) (attribute (c .before .before .before .before .before .before .before .before .args .a)) (c .before .before .before .before .before .before .before .before .args .m) (c .before .before .before .before .before .before .before .before .pre) (rw (← (ap (λ (x : RuleRecord). x .rule) (c .before .before .before .before .before .before .record-at .ensures)), ← (c .before .before .before .before .attribute .ensures)) (sym (c .before .before .before .test-fails .ensures) ∙ c .before .before .if1 .left)))
+returns-2 c =
+    let at-test-fails = c .before .before .before in
+    let at-attribute = at-test-fails .before in
+    let at-record-at = at-attribute .before .before in
+    let entry = at-record-at .before .before in
+    ap (outcomeOf (ruleOf (now (entry .args .s))) (attribute (entry .args .a))) (c .acts .ensures) ∙ rw (c .before .action-of .ensures, (ap (λ (x : RuleRecord). x .rule) (at-record-at .record-at .ensures))) (step-acted (entry .args .n) (ruleOf (now (entry .args .s))) (attribute (entry .args .a)) (entry .args .m) (entry .pre) (rw (← (ap (λ (x : RuleRecord). x .rule) (at-record-at .record-at .ensures)), ← (at-attribute .attribute .ensures)) (sym (at-test-fails .test-fails .ensures) ∙ c .before .before .if1 .left)))
 
 pub step-once-spec : {M : Type 1} → statement M
 step-once-spec =

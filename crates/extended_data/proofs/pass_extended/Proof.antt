@@ -43,7 +43,11 @@ loop-less c = search needs
 
 -- src/extended.rt:323:5
 loop-again : tie.Need-loop-again Inv-loop μ-loop
-loop-again c = sym (passed-step _ _ _ _ (c .before .before .before .before .loop-test .taken) (sym (c .before .before .before .pass-entry .ensures) ∙ c .before .entry .given .1)) ∙ c .before .before .before .before .before .loop .inv
+loop-again c =
+    let at-pass-entry = c .before .before .before in
+    let at-loop-test = at-pass-entry .before in
+    let at-loop = at-loop-test .before in
+    sym (passed-step _ _ _ _ (at-loop-test .loop-test .taken) (sym (at-pass-entry .pass-entry .ensures) ∙ c .before .entry .given .1)) ∙ at-loop .loop .inv
 
 -- src/extended.rt:318:1
 returns-2 : tie.Need-returns-2 Inv-loop μ-loop

@@ -41,7 +41,12 @@ enum-told-3 : tie.Need-enum-told-3
 enum-told-3 c = search needs
 
 returns-3 : tie.Need-returns-3
-returns-3 c = c .enum-told3 .given .1 ∙ sym (passed-then _ _ _ _ _ (passed-run _ _ _ _ _ refl (sym (c .before .before .before .before .before .before .before .before .before .before .pass-run .ensures) ∙ c .before .before .before .before .before .before .before .before .words .given .1)) ∙ passed-then-refused _ _ _ _ _ _ (passed-list _ _ _ _ _ (sym (c .before .before .before .before .before .before .read-word .ensures) ∙ c .before .before .before .before .count .given .1) ∙ (sym (c .before .before .pass-segments .ensures) ∙ c .enum-told3 .given .1)))
+returns-3 c =
+    let at-count = c .before .before .before .before in
+    let at-read-word = at-count .before .before in
+    let at-words = at-read-word .before .before in
+    let at-pass-run = at-words .before .before in
+    c .enum-told3 .given .1 ∙ sym (passed-then _ _ _ _ _ (passed-run _ _ _ _ _ refl (sym (at-pass-run .pass-run .ensures) ∙ at-words .words .given .1)) ∙ passed-then-refused _ _ _ _ _ _ (passed-list _ _ _ _ _ (sym (at-read-word .read-word .ensures) ∙ at-count .count .given .1) ∙ (sym (c .before .before .pass-segments .ensures) ∙ c .enum-told3 .given .1)))
 
 pass-numbers-requires : tie.Need-pass-numbers-requires
 pass-numbers-requires c κs = search needs
@@ -53,7 +58,14 @@ enum-told-4 : tie.Need-enum-told-4
 enum-told-4 c = search needs
 
 returns-4 : tie.Need-returns-4
-returns-4 c = c .enum-told4 .given .1 ∙ sym (passed-then _ _ _ _ _ (passed-run _ _ _ _ _ refl (sym (c .before .before .before .before .before .before .before .before .before .before .before .before .before .before .pass-run .ensures) ∙ c .before .before .before .before .before .before .before .before .before .before .before .before .words .given .1)) ∙ passed-then _ _ _ _ _ (passed-list _ _ _ _ _ (sym (c .before .before .before .before .before .before .before .before .before .before .read-word .ensures) ∙ c .before .before .before .before .before .before .before .before .count .given .1) ∙ (sym (c .before .before .before .before .before .before .pass-segments .ensures) ∙ c .before .before .before .before .path .given .1)) ∙ passed-then-refused _ _ _ _ _ _ (sym (c .before .before .pass-numbers .ensures) ∙ c .enum-told4 .given .1))
+returns-4 c =
+    let at-path = c .before .before .before .before in
+    let at-pass-segments = at-path .before .before in
+    let at-count = at-pass-segments .before .before in
+    let at-read-word = at-count .before .before in
+    let at-words = at-read-word .before .before in
+    let at-pass-run = at-words .before .before in
+    c .enum-told4 .given .1 ∙ sym (passed-then _ _ _ _ _ (passed-run _ _ _ _ _ refl (sym (at-pass-run .pass-run .ensures) ∙ at-words .words .given .1)) ∙ passed-then _ _ _ _ _ (passed-list _ _ _ _ _ (sym (at-read-word .read-word .ensures) ∙ at-count .count .given .1) ∙ (sym (at-pass-segments .pass-segments .ensures) ∙ at-path .path .given .1)) ∙ passed-then-refused _ _ _ _ _ _ (sym (c .before .before .pass-numbers .ensures) ∙ c .enum-told4 .given .1))
 
 slice-aggregate-pass-run-2 : tie.Need-slice-aggregate-pass-run-2
 slice-aggregate-pass-run-2 c = search needs
@@ -62,7 +74,16 @@ pass-run-requires-2 : tie.Need-pass-run-requires-2
 pass-run-requires-2 c κs = search needs
 
 returns-5 : tie.Need-returns-5
-returns-5 c = sym (passed-then _ _ _ _ _ (passed-run _ _ _ _ _ refl (sym (c .before .before .before .before .before .before .before .before .before .before .before .before .before .before .before .before .before .pass-run .ensures) ∙ c .before .before .before .before .before .before .before .before .before .before .before .before .before .before .before .words .given .1)) ∙ passed-then _ _ _ _ _ (passed-list _ _ _ _ _ (sym (c .before .before .before .before .before .before .before .before .before .before .before .before .before .read-word .ensures) ∙ c .before .before .before .before .before .before .before .before .before .before .before .count .given .1) ∙ (sym (c .before .before .before .before .before .before .before .before .before .pass-segments .ensures) ∙ c .before .before .before .before .before .before .before .path .given .1)) ∙ passed-then _ _ _ _ _ (sym (c .before .before .before .before .before .pass-numbers .ensures) ∙ c .before .before .before .communities .given .1) ∙ (passed-run _ _ _ _ _ refl (sym (c .pass-run2 .ensures))))
+returns-5 c =
+    let at-communities = c .before .before .before in
+    let at-pass-numbers = at-communities .before .before in
+    let at-path = at-pass-numbers .before .before in
+    let at-pass-segments = at-path .before .before in
+    let at-count = at-pass-segments .before .before in
+    let at-read-word = at-count .before .before in
+    let at-words = at-read-word .before .before in
+    let at-pass-run = at-words .before .before in
+    sym (passed-then _ _ _ _ _ (passed-run _ _ _ _ _ refl (sym (at-pass-run .pass-run .ensures) ∙ at-words .words .given .1)) ∙ passed-then _ _ _ _ _ (passed-list _ _ _ _ _ (sym (at-read-word .read-word .ensures) ∙ at-count .count .given .1) ∙ (sym (at-pass-segments .pass-segments .ensures) ∙ at-path .path .given .1)) ∙ passed-then _ _ _ _ _ (sym (at-pass-numbers .pass-numbers .ensures) ∙ at-communities .communities .given .1) ∙ (passed-run _ _ _ _ _ refl (sym (c .pass-run2 .ensures))))
 
 pub pass-gateway-spec : {M : Type 1} → statement M
 pass-gateway-spec =

@@ -44,7 +44,10 @@ read-gateway-requires c κs = search needs
 
 -- src/extended.rt:297:9
 returns-4 : tie.Need-returns-4
-returns-4 c = c .read-gateway .ensures ∙ sym (ap asExtended (gateway-kind _ _ _ _ (sym (c .before .before .before .before .before .before .before .read-word .ensures) ∙ c .before .before .before .before .before .kind .given .1) (c .before .if3 .taken)))
+returns-4 c =
+    let at-kind = c .before .before .before .before .before in
+    let at-read-word = at-kind .before .before in
+    c .read-gateway .ensures ∙ sym (ap asExtended (gateway-kind _ _ _ _ (sym (at-read-word .read-word .ensures) ∙ at-kind .kind .given .1) (c .before .if3 .taken)))
 
 -- src/extended.rt:300:9
 read-user-requires : tie.Need-read-user-requires
@@ -52,7 +55,10 @@ read-user-requires c κs = search needs
 
 -- src/extended.rt:300:9
 returns-5 : tie.Need-returns-5
-returns-5 c = c .read-user .ensures ∙ sym (ap asExtended (user-kind _ _ _ _ (sym (c .before .before .before .before .before .before .before .before .read-word .ensures) ∙ c .before .before .before .before .before .before .kind .given .1) (c .before .if4 .taken)))
+returns-5 c =
+    let at-kind = c .before .before .before .before .before .before in
+    let at-read-word = at-kind .before .before in
+    c .read-user .ensures ∙ sym (ap asExtended (user-kind _ _ _ _ (sym (at-read-word .read-word .ensures) ∙ at-kind .kind .given .1) (c .before .if4 .taken)))
 
 -- src/extended.rt:303:9
 read-url-requires : tie.Need-read-url-requires
@@ -60,11 +66,19 @@ read-url-requires c κs = search needs
 
 -- src/extended.rt:303:9
 returns-6 : tie.Need-returns-6
-returns-6 c = c .read-url .ensures ∙ sym (ap asExtended (url-kind _ _ _ _ (sym (c .before .before .before .before .before .before .before .before .before .read-word .ensures) ∙ c .before .before .before .before .before .before .before .kind .given .1) (c .before .if5 .taken)))
+returns-6 c =
+    let at-kind = c .before .before .before .before .before .before .before in
+    let at-read-word = at-kind .before .before in
+    c .read-url .ensures ∙ sym (ap asExtended (url-kind _ _ _ _ (sym (at-read-word .read-word .ensures) ∙ at-kind .kind .given .1) (c .before .if5 .taken)))
 
 -- src/extended.rt:284:1
 returns-7 : tie.Need-returns-7
-returns-7 c = sym (ap asExtended (other-kind _ _ _ _ (sym (c .before .before .before .before .before .before .before .before .read-word .ensures) ∙ c .before .before .before .before .before .before .kind .given .1) (c .before .before .before .before .if1 .left) (c .before .before .before .if2 .left) (c .before .before .if3 .left) (c .before .if4 .left) (c .if5 .left)))
+returns-7 c =
+    let at-if2 = c .before .before .before in
+    let at-if1 = at-if2 .before in
+    let at-kind = at-if1 .before .before in
+    let at-read-word = at-kind .before .before in
+    sym (ap asExtended (other-kind _ _ _ _ (sym (at-read-word .read-word .ensures) ∙ at-kind .kind .given .1) (at-if1 .if1 .left) (at-if2 .if2 .left) (c .before .before .if3 .left) (c .before .if4 .left) (c .if5 .left)))
 
 pub read-extended-spec : {M : Type 1} → statement M
 read-extended-spec =

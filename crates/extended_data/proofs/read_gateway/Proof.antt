@@ -53,7 +53,12 @@ enum-told-3 c = search needs
 
 -- src/extended.rt:234:9
 returns-3 : tie.Need-returns-3
-returns-3 c = sym (ap asExtended (then-refused _ _ _ _ _ _ _ (reads-found (word-then (sym (c .before .before .before .before .before .before .before .before .before .before .read-word .ensures) ∙ c .before .before .before .before .before .before .before .before .router-as .given .1) (word-then (sym (c .before .before .before .before .before .before .read-word2 .ensures) ∙ c .before .before .before .before .src-as .given .1) (word-cut (sym (c .before .before .read-word3 .ensures) ∙ c .enum-told3 .given .1)))))))
+returns-3 c =
+    let at-src-as = c .before .before .before .before in
+    let at-read-word2 = at-src-as .before .before in
+    let at-router-as = at-read-word2 .before .before in
+    let at-read-word = at-router-as .before .before in
+    sym (ap asExtended (then-refused _ _ _ _ _ _ _ (reads-found (word-then (sym (at-read-word .read-word .ensures) ∙ at-router-as .router-as .given .1) (word-then (sym (at-read-word2 .read-word2 .ensures) ∙ at-src-as .src-as .given .1) (word-cut (sym (c .before .before .read-word3 .ensures) ∙ c .enum-told3 .given .1)))))))
 
 -- src/extended.rt:236:40
 read-word-requires-4 : tie.Need-read-word-requires-4
@@ -69,7 +74,14 @@ enum-told-4 c = search needs
 
 -- src/extended.rt:237:9
 returns-4 : tie.Need-returns-4
-returns-4 c = sym (ap asExtended (path-cut _ _ _ _ _ _ (reads-found (word-then (sym (c .before .before .before .before .before .before .before .before .before .before .before .before .before .before .read-word .ensures) ∙ c .before .before .before .before .before .before .before .before .before .before .before .before .router-as .given .1) (word-then (sym (c .before .before .before .before .before .before .before .before .before .before .read-word2 .ensures) ∙ c .before .before .before .before .before .before .before .before .src-as .given .1) (word-then (sym (c .before .before .before .before .before .before .read-word3 .ensures) ∙ c .before .before .before .before .src-peer-as .given .1) no-more)))) _ (sym (c .before .before .read-word4 .ensures) ∙ c .enum-told4 .given .1)))
+returns-4 c =
+    let at-src-peer-as = c .before .before .before .before in
+    let at-read-word3 = at-src-peer-as .before .before in
+    let at-src-as = at-read-word3 .before .before in
+    let at-read-word2 = at-src-as .before .before in
+    let at-router-as = at-read-word2 .before .before in
+    let at-read-word = at-router-as .before .before in
+    sym (ap asExtended (path-cut _ _ _ _ _ _ (reads-found (word-then (sym (at-read-word .read-word .ensures) ∙ at-router-as .router-as .given .1) (word-then (sym (at-read-word2 .read-word2 .ensures) ∙ at-src-as .src-as .given .1) (word-then (sym (at-read-word3 .read-word3 .ensures) ∙ at-src-peer-as .src-peer-as .given .1) no-more)))) _ (sym (c .before .before .read-word4 .ensures) ∙ c .enum-told4 .given .1)))
 
 -- src/extended.rt:239:11
 pass-segments-requires : tie.Need-pass-segments-requires
@@ -89,11 +101,31 @@ read-communities-requires c κs = search needs
 
 -- src/extended.rt:224:1
 returns-5 : tie.Need-returns-5
-returns-5 c = sym (ap asExtended (path-refused _ _ _ _ _ _ (reads-found (word-then (sym (c .before .before .before .before .before .before .before .before .before .before .before .before .before .before .before .before .before .before .before .read-word .ensures) ∙ c .before .before .before .before .before .before .before .before .before .before .before .before .before .before .before .before .before .router-as .given .1) (word-then (sym (c .before .before .before .before .before .before .before .before .before .before .before .before .before .before .before .read-word2 .ensures) ∙ c .before .before .before .before .before .before .before .before .before .before .before .before .before .src-as .given .1) (word-then (sym (c .before .before .before .before .before .before .before .before .before .before .before .read-word3 .ensures) ∙ c .before .before .before .before .before .before .before .before .before .src-peer-as .given .1) no-more)))) _ _ (sym (c .before .before .before .before .before .before .before .read-word4 .ensures) ∙ c .before .before .before .before .before .count .given .1) _ _ (sym (c .before .before .before .pass-segments .ensures) ∙ c .before .why .given .1)))
+returns-5 c =
+    let at-pass-segments = c .before .before .before in
+    let at-count = at-pass-segments .before .before in
+    let at-read-word4 = at-count .before .before in
+    let at-src-peer-as = at-read-word4 .before .before in
+    let at-read-word3 = at-src-peer-as .before .before in
+    let at-src-as = at-read-word3 .before .before in
+    let at-read-word2 = at-src-as .before .before in
+    let at-router-as = at-read-word2 .before .before in
+    let at-read-word = at-router-as .before .before in
+    sym (ap asExtended (path-refused _ _ _ _ _ _ (reads-found (word-then (sym (at-read-word .read-word .ensures) ∙ at-router-as .router-as .given .1) (word-then (sym (at-read-word2 .read-word2 .ensures) ∙ at-src-as .src-as .given .1) (word-then (sym (at-read-word3 .read-word3 .ensures) ∙ at-src-peer-as .src-peer-as .given .1) no-more)))) _ _ (sym (at-read-word4 .read-word4 .ensures) ∙ at-count .count .given .1) _ _ (sym (at-pass-segments .pass-segments .ensures) ∙ c .before .why .given .1)))
 
 -- src/extended.rt:224:1
 returns-6 : tie.Need-returns-6
-returns-6 c = c .read-communities .ensures ∙ sym (ap asExtended (path-found _ _ _ _ _ _ (reads-found (word-then (sym (c .before .before .before .before .before .before .before .before .before .before .before .before .before .before .before .before .before .before .before .before .read-word .ensures) ∙ c .before .before .before .before .before .before .before .before .before .before .before .before .before .before .before .before .before .before .router-as .given .1) (word-then (sym (c .before .before .before .before .before .before .before .before .before .before .before .before .before .before .before .before .read-word2 .ensures) ∙ c .before .before .before .before .before .before .before .before .before .before .before .before .before .before .src-as .given .1) (word-then (sym (c .before .before .before .before .before .before .before .before .before .before .before .before .read-word3 .ensures) ∙ c .before .before .before .before .before .before .before .before .before .before .src-peer-as .given .1) no-more)))) _ _ (sym (c .before .before .before .before .before .before .before .before .read-word4 .ensures) ∙ c .before .before .before .before .before .before .count .given .1) _ (sym (c .before .before .before .before .pass-segments .ensures) ∙ c .before .before .end .given .1)))
+returns-6 c =
+    let at-pass-segments = c .before .before .before .before in
+    let at-count = at-pass-segments .before .before in
+    let at-read-word4 = at-count .before .before in
+    let at-src-peer-as = at-read-word4 .before .before in
+    let at-read-word3 = at-src-peer-as .before .before in
+    let at-src-as = at-read-word3 .before .before in
+    let at-read-word2 = at-src-as .before .before in
+    let at-router-as = at-read-word2 .before .before in
+    let at-read-word = at-router-as .before .before in
+    c .read-communities .ensures ∙ sym (ap asExtended (path-found _ _ _ _ _ _ (reads-found (word-then (sym (at-read-word .read-word .ensures) ∙ at-router-as .router-as .given .1) (word-then (sym (at-read-word2 .read-word2 .ensures) ∙ at-src-as .src-as .given .1) (word-then (sym (at-read-word3 .read-word3 .ensures) ∙ at-src-peer-as .src-peer-as .given .1) no-more)))) _ _ (sym (at-read-word4 .read-word4 .ensures) ∙ at-count .count .given .1) _ (sym (at-pass-segments .pass-segments .ensures) ∙ c .before .before .end .given .1)))
 
 pub read-gateway-spec : {M : Type 1} → statement M
 read-gateway-spec =

@@ -48,7 +48,12 @@ enum-told-2 c = search needs
 
 -- src/extended.rt:120:17
 returns-2 : tie.Need-returns-2
-returns-2 c = sym (ap asExtended (router-masks _ _ _ _ _ (sym (c .before .before .before .before .before .before .before .before .before .before .read-address .ensures) ∙ c .before .before .before .before .before .before .before .before .nexthop .given .1) (reads-found (word-then (sym (c .before .before .before .before .before .before .read-word .ensures) ∙ c .before .before .before .before .src-mask .given .1) (word-cut (sym (c .before .before .read-word2 .ensures) ∙ c .enum-told2 .given .1))))))
+returns-2 c =
+    let at-src-mask = c .before .before .before .before in
+    let at-read-word = at-src-mask .before .before in
+    let at-nexthop = at-read-word .before .before in
+    let at-read-address = at-nexthop .before .before in
+    sym (ap asExtended (router-masks _ _ _ _ _ (sym (at-read-address .read-address .ensures) ∙ at-nexthop .nexthop .given .1) (reads-found (word-then (sym (at-read-word .read-word .ensures) ∙ at-src-mask .src-mask .given .1) (word-cut (sym (c .before .before .read-word2 .ensures) ∙ c .enum-told2 .given .1))))))
 
 -- src/extended.rt:110:1
 returns-3 : tie.Need-returns-3
@@ -56,7 +61,13 @@ returns-3 c = sym (ap asExtended (router-refused _ _ _ _ (sym (c .before .before
 
 -- src/extended.rt:110:1
 returns-4 : tie.Need-returns-4
-returns-4 c = sym (ap asExtended (router-masks _ _ _ _ _ (sym (c .before .before .before .before .before .before .before .before .before .before .before .read-address .ensures) ∙ c .before .before .before .before .before .before .before .before .before .nexthop .given .1) (reads-found (word-then (sym (c .before .before .before .before .before .before .before .read-word .ensures) ∙ c .before .before .before .before .before .src-mask .given .1) (word-then (sym (c .before .before .before .read-word2 .ensures) ∙ c .before .dst-mask .given .1) no-more)))))
+returns-4 c =
+    let at-read-word2 = c .before .before .before in
+    let at-src-mask = at-read-word2 .before .before in
+    let at-read-word = at-src-mask .before .before in
+    let at-nexthop = at-read-word .before .before in
+    let at-read-address = at-nexthop .before .before in
+    sym (ap asExtended (router-masks _ _ _ _ _ (sym (at-read-address .read-address .ensures) ∙ at-nexthop .nexthop .given .1) (reads-found (word-then (sym (at-read-word .read-word .ensures) ∙ at-src-mask .src-mask .given .1) (word-then (sym (at-read-word2 .read-word2 .ensures) ∙ c .before .dst-mask .given .1) no-more)))))
 
 pub read-router-spec : {M : Type 1} → statement M
 read-router-spec =

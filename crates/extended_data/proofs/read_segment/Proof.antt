@@ -45,7 +45,12 @@ enum-told-2 c = search needs
 
 -- src/extended.rt:148:9
 returns-4 : tie.Need-returns-4
-returns-4 c = sym (ap asSegment (segment-cut _ _ _ _ (sym (c .before .before .before .before .before .before .before .before .read-word .ensures) ∙ c .before .before .before .before .before .before .kind .given .1) (c .before .before .before .before .if1 .left) (c .before .before .before .if2 .left) _ (sym (c .before .before .read-word2 .ensures) ∙ c .enum-told2 .given .1)))
+returns-4 c =
+    let at-if2 = c .before .before .before in
+    let at-if1 = at-if2 .before in
+    let at-kind = at-if1 .before .before in
+    let at-read-word = at-kind .before .before in
+    sym (ap asSegment (segment-cut _ _ _ _ (sym (at-read-word .read-word .ensures) ∙ at-kind .kind .given .1) (at-if1 .if1 .left) (at-if2 .if2 .left) _ (sym (c .before .before .read-word2 .ensures) ∙ c .enum-told2 .given .1)))
 
 -- src/extended.rt:150:11
 pass-words-requires : tie.Need-pass-words-requires
@@ -61,11 +66,27 @@ enum-known-why c = search needs
 
 -- src/extended.rt:135:1
 returns-5 : tie.Need-returns-5
-returns-5 c = sym (ap asSegment (segment-found _ _ _ _ (sym (c .before .before .before .before .before .before .before .before .before .before .before .before .before .read-word .ensures) ∙ c .before .before .before .before .before .before .before .before .before .before .before .kind .given .1) (c .before .before .before .before .before .before .before .before .before .if1 .left) (c .before .before .before .before .before .before .before .before .if2 .left) _ _ (sym (c .before .before .before .before .before .before .before .read-word2 .ensures) ∙ c .before .before .before .before .before .count .given .1) _ (sym (c .before .before .before .pass-words .ensures) ∙ c .before .next .given .1)))
+returns-5 c =
+    let at-pass-words = c .before .before .before in
+    let at-count = at-pass-words .before .before in
+    let at-read-word2 = at-count .before .before in
+    let at-if2 = at-read-word2 .before in
+    let at-if1 = at-if2 .before in
+    let at-kind = at-if1 .before .before in
+    let at-read-word = at-kind .before .before in
+    sym (ap asSegment (segment-found _ _ _ _ (sym (at-read-word .read-word .ensures) ∙ at-kind .kind .given .1) (at-if1 .if1 .left) (at-if2 .if2 .left) _ _ (sym (at-read-word2 .read-word2 .ensures) ∙ at-count .count .given .1) _ (sym (at-pass-words .pass-words .ensures) ∙ c .before .next .given .1)))
 
 -- src/extended.rt:135:1
 returns-6 : tie.Need-returns-6
-returns-6 c = sym (ap asSegment (segment-refused _ _ _ _ (sym (c .before .before .before .before .before .before .before .before .before .before .before .before .before .read-word .ensures) ∙ c .before .before .before .before .before .before .before .before .before .before .before .kind .given .1) (c .before .before .before .before .before .before .before .before .before .if1 .left) (c .before .before .before .before .before .before .before .before .if2 .left) _ _ (sym (c .before .before .before .before .before .before .before .read-word2 .ensures) ∙ c .before .before .before .before .before .count .given .1) _ _ (sym (c .before .before .before .pass-words .ensures) ∙ c .before .why .given .1)))
+returns-6 c =
+    let at-pass-words = c .before .before .before in
+    let at-count = at-pass-words .before .before in
+    let at-read-word2 = at-count .before .before in
+    let at-if2 = at-read-word2 .before in
+    let at-if1 = at-if2 .before in
+    let at-kind = at-if1 .before .before in
+    let at-read-word = at-kind .before .before in
+    sym (ap asSegment (segment-refused _ _ _ _ (sym (at-read-word .read-word .ensures) ∙ at-kind .kind .given .1) (at-if1 .if1 .left) (at-if2 .if2 .left) _ _ (sym (at-read-word2 .read-word2 .ensures) ∙ at-count .count .given .1) _ _ (sym (at-pass-words .pass-words .ensures) ∙ c .before .why .given .1)))
 
 pub read-segment-spec : {M : Type 1} → statement M
 read-segment-spec =

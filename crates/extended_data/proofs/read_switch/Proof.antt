@@ -52,7 +52,12 @@ enum-told-3 c = search needs
 
 -- src/extended.rt:94:9
 returns-3 : tie.Need-returns-3
-returns-3 c = sym (ap asExtended (switch-reads (word-then (sym (c .before .before .before .before .before .before .before .before .before .before .read-word .ensures) ∙ c .before .before .before .before .before .before .before .before .src-vlan .given .1) (word-then (sym (c .before .before .before .before .before .before .read-word2 .ensures) ∙ c .before .before .before .before .src-priority .given .1) (word-cut (sym (c .before .before .read-word3 .ensures) ∙ c .enum-told3 .given .1))))))
+returns-3 c =
+    let at-src-priority = c .before .before .before .before in
+    let at-read-word2 = at-src-priority .before .before in
+    let at-src-vlan = at-read-word2 .before .before in
+    let at-read-word = at-src-vlan .before .before in
+    sym (ap asExtended (switch-reads (word-then (sym (at-read-word .read-word .ensures) ∙ at-src-vlan .src-vlan .given .1) (word-then (sym (at-read-word2 .read-word2 .ensures) ∙ at-src-priority .src-priority .given .1) (word-cut (sym (c .before .before .read-word3 .ensures) ∙ c .enum-told3 .given .1))))))
 
 -- src/extended.rt:96:46
 read-word-requires-4 : tie.Need-read-word-requires-4
@@ -68,11 +73,26 @@ enum-told-4 c = search needs
 
 -- src/extended.rt:97:9
 returns-4 : tie.Need-returns-4
-returns-4 c = sym (ap asExtended (switch-reads (word-then (sym (c .before .before .before .before .before .before .before .before .before .before .before .before .before .before .read-word .ensures) ∙ c .before .before .before .before .before .before .before .before .before .before .before .before .src-vlan .given .1) (word-then (sym (c .before .before .before .before .before .before .before .before .before .before .read-word2 .ensures) ∙ c .before .before .before .before .before .before .before .before .src-priority .given .1) (word-then (sym (c .before .before .before .before .before .before .read-word3 .ensures) ∙ c .before .before .before .before .dst-vlan .given .1) (word-cut (sym (c .before .before .read-word4 .ensures) ∙ c .enum-told4 .given .1)))))))
+returns-4 c =
+    let at-dst-vlan = c .before .before .before .before in
+    let at-read-word3 = at-dst-vlan .before .before in
+    let at-src-priority = at-read-word3 .before .before in
+    let at-read-word2 = at-src-priority .before .before in
+    let at-src-vlan = at-read-word2 .before .before in
+    let at-read-word = at-src-vlan .before .before in
+    sym (ap asExtended (switch-reads (word-then (sym (at-read-word .read-word .ensures) ∙ at-src-vlan .src-vlan .given .1) (word-then (sym (at-read-word2 .read-word2 .ensures) ∙ at-src-priority .src-priority .given .1) (word-then (sym (at-read-word3 .read-word3 .ensures) ∙ at-dst-vlan .dst-vlan .given .1) (word-cut (sym (c .before .before .read-word4 .ensures) ∙ c .enum-told4 .given .1)))))))
 
 -- src/extended.rt:84:1
 returns-5 : tie.Need-returns-5
-returns-5 c = sym (ap asExtended (switch-reads (word-then (sym (c .before .before .before .before .before .before .before .before .before .before .before .before .before .before .before .read-word .ensures) ∙ c .before .before .before .before .before .before .before .before .before .before .before .before .before .src-vlan .given .1) (word-then (sym (c .before .before .before .before .before .before .before .before .before .before .before .read-word2 .ensures) ∙ c .before .before .before .before .before .before .before .before .before .src-priority .given .1) (word-then (sym (c .before .before .before .before .before .before .before .read-word3 .ensures) ∙ c .before .before .before .before .before .dst-vlan .given .1) (word-then (sym (c .before .before .before .read-word4 .ensures) ∙ c .before .dst-priority .given .1) no-more))))))
+returns-5 c =
+    let at-read-word4 = c .before .before .before in
+    let at-dst-vlan = at-read-word4 .before .before in
+    let at-read-word3 = at-dst-vlan .before .before in
+    let at-src-priority = at-read-word3 .before .before in
+    let at-read-word2 = at-src-priority .before .before in
+    let at-src-vlan = at-read-word2 .before .before in
+    let at-read-word = at-src-vlan .before .before in
+    sym (ap asExtended (switch-reads (word-then (sym (at-read-word .read-word .ensures) ∙ at-src-vlan .src-vlan .given .1) (word-then (sym (at-read-word2 .read-word2 .ensures) ∙ at-src-priority .src-priority .given .1) (word-then (sym (at-read-word3 .read-word3 .ensures) ∙ at-dst-vlan .dst-vlan .given .1) (word-then (sym (at-read-word4 .read-word4 .ensures) ∙ c .before .dst-priority .given .1) no-more))))))
 
 pub read-switch-spec : {M : Type 1} → statement M
 read-switch-spec =

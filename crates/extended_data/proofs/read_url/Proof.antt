@@ -45,11 +45,23 @@ enum-known-url c = search needs
 
 -- src/extended.rt:262:1
 returns-4 : tie.Need-returns-4
-returns-4 c = sym (ap asExtended (url-string _ _ _ _ _ (sym (c .before .before .before .before .before .before .before .before .before .read-word .ensures) ∙ c .before .before .before .before .before .before .before .direction .given .1) (c .before .before .before .before .before .if1 .left) (c .before .before .before .before .if2 .left) (sym (c .before .before .before .read-string .ensures) ∙ c .before .why .given .1)))
+returns-4 c =
+    let at-read-string = c .before .before .before in
+    let at-if2 = at-read-string .before in
+    let at-if1 = at-if2 .before in
+    let at-direction = at-if1 .before .before in
+    let at-read-word = at-direction .before .before in
+    sym (ap asExtended (url-string _ _ _ _ _ (sym (at-read-word .read-word .ensures) ∙ at-direction .direction .given .1) (at-if1 .if1 .left) (at-if2 .if2 .left) (sym (at-read-string .read-string .ensures) ∙ c .before .why .given .1)))
 
 -- src/extended.rt:262:1
 returns-5 : tie.Need-returns-5
-returns-5 c = sym (ap asExtended (url-string _ _ _ _ _ (sym (c .before .before .before .before .before .before .before .before .before .read-word .ensures) ∙ c .before .before .before .before .before .before .before .direction .given .1) (c .before .before .before .before .before .if1 .left) (c .before .before .before .before .if2 .left) (sym (c .before .before .before .read-string .ensures) ∙ c .before .url .given .1)))
+returns-5 c =
+    let at-read-string = c .before .before .before in
+    let at-if2 = at-read-string .before in
+    let at-if1 = at-if2 .before in
+    let at-direction = at-if1 .before .before in
+    let at-read-word = at-direction .before .before in
+    sym (ap asExtended (url-string _ _ _ _ _ (sym (at-read-word .read-word .ensures) ∙ at-direction .direction .given .1) (at-if1 .if1 .left) (at-if2 .if2 .left) (sym (at-read-string .read-string .ensures) ∙ c .before .url .given .1)))
 
 pub read-url-spec : {M : Type 1} → statement M
 read-url-spec =

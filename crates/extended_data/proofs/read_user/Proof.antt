@@ -35,11 +35,19 @@ returns c = sym (ap asExtended (user-refused _ _ _ _ (sym (c .before .before .be
 
 -- src/extended.rt:248:1
 returns-2 : tie.Need-returns-2
-returns-2 c = sym (ap asExtended (user-second _ _ _ _ _ (sym (c .before .before .before .before .before .before .before .read-string .ensures) ∙ c .before .before .before .before .before .src-user .given .1) (sym (c .before .before .before .read-string2 .ensures) ∙ c .before .why2 .given .1)))
+returns-2 c =
+    let at-read-string2 = c .before .before .before in
+    let at-src-user = at-read-string2 .before .before in
+    let at-read-string = at-src-user .before .before in
+    sym (ap asExtended (user-second _ _ _ _ _ (sym (at-read-string .read-string .ensures) ∙ at-src-user .src-user .given .1) (sym (at-read-string2 .read-string2 .ensures) ∙ c .before .why2 .given .1)))
 
 -- src/extended.rt:248:1
 returns-3 : tie.Need-returns-3
-returns-3 c = sym (ap asExtended (user-second _ _ _ _ _ (sym (c .before .before .before .before .before .before .before .read-string .ensures) ∙ c .before .before .before .before .before .src-user .given .1) (sym (c .before .before .before .read-string2 .ensures) ∙ c .before .dst-user .given .1)))
+returns-3 c =
+    let at-read-string2 = c .before .before .before in
+    let at-src-user = at-read-string2 .before .before in
+    let at-read-string = at-src-user .before .before in
+    sym (ap asExtended (user-second _ _ _ _ _ (sym (at-read-string .read-string .ensures) ∙ at-src-user .src-user .given .1) (sym (at-read-string2 .read-string2 .ensures) ∙ c .before .dst-user .given .1)))
 
 pub read-user-spec : {M : Type 1} → statement M
 read-user-spec =

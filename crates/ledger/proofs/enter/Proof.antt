@@ -37,7 +37,11 @@ array-set-from-after c = search needs
 
 -- src/lib.rt:252:1
 returns-2 : tie.Need-returns-2
-returns-2 c = one-row (c .before .before .before .before .before .args .t1) (c .before .before .before .before .before .args .x) (search needs) (c .before .before .before .before .row-for .result) (c .before .before .before .before .row-for .ensures) (c .before .before .before .if1 .left) (c .before .update .result) (c .before .update .ensures)
+returns-2 c =
+    let at-if1 = c .before .before .before in
+    let at-row-for = at-if1 .before in
+    let entry = at-row-for .before in
+    one-row (entry .args .t1) (entry .args .x) (search needs) (at-row-for .row-for .result) (at-row-for .row-for .ensures) (at-if1 .if1 .left) (c .before .update .result) (c .before .update .ensures)
 
 pub enter-spec : {M : Type 1} → statement M
 enter-spec =

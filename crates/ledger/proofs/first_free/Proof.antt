@@ -38,11 +38,17 @@ loop-less c = search needs
 
 -- src/lib.rt:213:5
 loop-again : tie.Need-loop-again Inv-loop μ-loop
-loop-again c = let rows = c .before .before .before .before .args .t1 in let long : length rows ≡ 64 = search needs in (search needs, sym (first-step isFree rows (c .before .before .before .loop .i) (omega arith) (not-free (getD rows (c .before .before .before .loop .i) freeRow) (c .if1 .taken))) ∙ c .before .before .before .loop .inv .1)
+loop-again c =
+    let at-loop = c .before .before .before in
+    let entry = at-loop .before in
+    let rows = entry .args .t1 in let long : length rows ≡ 64 = search needs in (search needs, sym (first-step isFree rows (at-loop .loop .i) (omega arith) (not-free (getD rows (at-loop .loop .i) freeRow) (c .if1 .taken))) ∙ at-loop .loop .inv .1)
 
 -- src/lib.rt:218:13
 returns : tie.Need-returns Inv-loop μ-loop
-returns c = let rows = c .before .before .before .before .args .t1 in let long : length rows ≡ 64 = search needs in sym (first-here isFree rows (c .before .before .before .loop .i) (omega arith) (free (getD rows (c .before .before .before .loop .i) freeRow) (c .if1 .left))) ∙ c .before .before .before .loop .inv .1
+returns c =
+    let at-loop = c .before .before .before in
+    let entry = at-loop .before in
+    let rows = entry .args .t1 in let long : length rows ≡ 64 = search needs in sym (first-here isFree rows (at-loop .loop .i) (omega arith) (free (getD rows (at-loop .loop .i) freeRow) (c .if1 .left))) ∙ at-loop .loop .inv .1
 
 -- src/lib.rt:209:1
 returns-2 : tie.Need-returns-2 Inv-loop μ-loop

@@ -35,7 +35,10 @@ is-of-requires c κs = search needs
 
 -- src/lib.rt:201:13
 returns : tie.Need-returns Inv-loop μ-loop
-returns c = let rows = c .before .before .before .before .before .args .t1 in let long : length rows ≡ 64 = search needs in sym (first-here (isOf (sourceOf (c .before .before .before .before .before .args .x))) rows (c .before .before .before .before .loop .i) (omega arith) (sym (c .before .is-of .ensures) ∙ c .if1 .taken)) ∙ c .before .before .before .before .loop .inv .1
+returns c =
+    let at-loop = c .before .before .before .before in
+    let entry = at-loop .before in
+    let rows = entry .args .t1 in let long : length rows ≡ 64 = search needs in sym (first-here (isOf (sourceOf (entry .args .x))) rows (at-loop .loop .i) (omega arith) (sym (c .before .is-of .ensures) ∙ c .if1 .taken)) ∙ at-loop .loop .inv .1
 
 -- src/lib.rt:203:9
 add-i : tie.Need-add-i Inv-loop μ-loop
@@ -47,7 +50,10 @@ loop-less c = search needs
 
 -- src/lib.rt:198:5
 loop-again : tie.Need-loop-again Inv-loop μ-loop
-loop-again c = let rows = c .before .before .before .before .before .args .t1 in let long : length rows ≡ 64 = search needs in (search needs, sym (first-step (isOf (sourceOf (c .before .before .before .before .before .args .x))) rows (c .before .before .before .before .loop .i) (omega arith) (sym (c .before .is-of .ensures) ∙ c .if1 .left)) ∙ c .before .before .before .before .loop .inv .1)
+loop-again c =
+    let at-loop = c .before .before .before .before in
+    let entry = at-loop .before in
+    let rows = entry .args .t1 in let long : length rows ≡ 64 = search needs in (search needs, sym (first-step (isOf (sourceOf (entry .args .x))) rows (at-loop .loop .i) (omega arith) (sym (c .before .is-of .ensures) ∙ c .if1 .left)) ∙ at-loop .loop .inv .1)
 
 -- src/lib.rt:194:1
 returns-2 : tie.Need-returns-2 Inv-loop μ-loop

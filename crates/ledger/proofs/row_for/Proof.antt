@@ -21,7 +21,9 @@ first-free-requires c κs = search needs
 
 -- src/lib.rt:235:1
 returns-2 : tie.Need-returns-2
-returns-2 c = free-row (c .before .before .before .args .rows) (c .before .before .before .args .x) (search needs) _ _ (c .before .before .own-row .ensures) (c .before .if1 .left) (c .first-free .ensures)
+returns-2 c =
+    let entry = c .before .before .before in
+    free-row (entry .args .rows) (entry .args .x) (search needs) _ _ (c .before .before .own-row .ensures) (c .before .if1 .left) (c .first-free .ensures)
 
 pub row-for-spec : {M : Type 1} → statement M
 row-for-spec = tie.close (tie.spec own-row-requires returns first-free-requires returns-2)

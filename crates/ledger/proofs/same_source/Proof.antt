@@ -9,7 +9,9 @@ use Rattle.ledger.proofs.same_address.Reads as same-address-reads
 
 -- src/lib.rt:107:9
 returns : tie.Need-returns
-returns c = other-id (c .before .before .before .before .before .before .args .row) (c .before .before .before .before .before .before .args .x) (c .if1 .taken)
+returns c =
+    let entry = c .before .before .before .before .before .before in
+    other-id (entry .args .row) (entry .args .x) (c .if1 .taken)
 
 -- src/lib.rt:109:5
 same-address-requires : tie.Need-same-address-requires
@@ -17,7 +19,9 @@ same-address-requires c κs = search needs
 
 -- src/lib.rt:100:1
 returns-2 : tie.Need-returns-2
-returns-2 c = c .same-address .ensures ∙ address-tells (c .before .before .before .before .before .before .before .args .row) (c .before .before .before .before .before .before .before .args .x) (c .before .if1 .left)
+returns-2 c =
+    let entry = c .before .before .before .before .before .before .before in
+    c .same-address .ensures ∙ address-tells (entry .args .row) (entry .args .x) (c .before .if1 .left)
 
 pub same-source-spec : {M : Type 1} → statement M
 same-source-spec = tie.close (tie.spec returns same-address-requires returns-2)

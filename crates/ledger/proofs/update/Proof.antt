@@ -19,11 +19,16 @@ go-on-requires c κs = search needs
 
 -- src/lib.rt:176:13
 returns : tie.Need-returns
-returns c = c .go-on .ensures ∙ of-source (c .before .before .before .before .args .row) (c .before .before .before .before .args .x) (c .before .before .before .if1 .taken) (sym (c .before .before .same-source .ensures) ∙ c .before .if2 .taken)
+returns c =
+    let at-if1 = c .before .before .before in
+    let entry = at-if1 .before in
+    c .go-on .ensures ∙ of-source (entry .args .row) (entry .args .x) (at-if1 .if1 .taken) (sym (c .before .before .same-source .ensures) ∙ c .before .if2 .taken)
 
 -- src/lib.rt:179:9
 returns-2 : tie.Need-returns-2
-returns-2 c = of-another (c .before .before .before .args .row) (c .before .before .before .args .x) (c .before .before .if1 .taken) (sym (c .before .same-source .ensures) ∙ c .if2 .left)
+returns-2 c =
+    let entry = c .before .before .before in
+    of-another (entry .args .row) (entry .args .x) (c .before .before .if1 .taken) (sym (c .before .same-source .ensures) ∙ c .if2 .left)
 
 -- src/lib.rt:181:5
 open-requires : tie.Need-open-requires

@@ -29,8 +29,10 @@ returns c = search needs
 -- src/main.rt:154:5
 flush-requires : tie.Need-flush-requires
 flush-requires c κs =
-    let e = c .before .before .before .before .before .before .end-lines .last .0 in
-    let h = line-inside (c .before .before .before .before .before .before .before .before .before .args .output .now) e _ _ _ (ap (λ x. wrote x e) (sym (c .before .before .n .given .1)) ∙ c .before .before .before .before .before .before .end-lines .ensures) (search needs) in
+    let at-end-lines = c .before .before .before .before .before .before in
+    let entry = at-end-lines .before .before .before in
+    let e = at-end-lines .end-lines .last .0 in
+    let h = line-inside (entry .args .output .now) e _ _ _ (ap (λ x. wrote x e) (sym (c .before .before .n .given .1)) ∙ at-end-lines .end-lines .ensures) (search needs) in
     omega arith
 
 -- src/main.rt:150:1

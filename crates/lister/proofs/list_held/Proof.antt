@@ -36,7 +36,11 @@ list-records-requires c κs = search needs
 
 -- src/main.rt:102:9
 add-listed : tie.Need-add-listed Inv-loop μ-loop
-add-listed c = let h = listed-part _ (c .before .before .before .before .before .before .before .before .before .before .args .s .now) _ (c .before .before .before .before .before .before .before .loop .listed) _ _ (c .before .before .before .before .before .before .before .loop .inv .1) (c .before .before .before .list-records .ensures) in omega arith
+add-listed c =
+    let at-list-records = c .before .before .before in
+    let at-loop = at-list-records .before .before .before .before in
+    let entry = at-loop .before .before .before in
+    let h = listed-part _ (entry .args .s .now) _ (at-loop .loop .listed) _ _ (at-loop .loop .inv .1) (at-list-records .list-records .ensures) in omega arith
 
 -- src/main.rt:104:13
 flush-requires : tie.Need-flush-requires Inv-loop μ-loop
@@ -48,7 +52,11 @@ same-length c = search needs
 
 -- src/main.rt:105:13
 returns : tie.Need-returns Inv-loop μ-loop
-returns c = listed-part _ (c .before .before .before .before .before .before .before .before .before .before .before .before .before .before .args .s .now) _ (c .before .before .before .before .before .before .before .before .before .before .before .loop .listed) _ _ (c .before .before .before .before .before .before .before .before .before .before .before .loop .inv .1) (c .before .before .before .before .before .before .before .list-records .ensures)
+returns c =
+    let at-list-records = c .before .before .before .before .before .before .before in
+    let at-loop = at-list-records .before .before .before .before in
+    let entry = at-loop .before .before .before in
+    listed-part _ (entry .args .s .now) _ (at-loop .loop .listed) _ _ (at-loop .loop .inv .1) (at-list-records .list-records .ensures)
 
 enum-told : tie.Need-enum-told Inv-loop μ-loop
 enum-told c = search needs
@@ -63,7 +71,11 @@ same-length-2 c = search needs
 
 -- src/main.rt:115:32
 returns-2 : tie.Need-returns-2 Inv-loop μ-loop
-returns-2 c = listed-part _ (c .before .before .before .before .before .before .before .before .before .before .before .before .before .before .before .before .args .s .now) _ (c .before .before .before .before .before .before .before .before .before .before .before .before .before .loop .listed) _ _ (c .before .before .before .before .before .before .before .before .before .before .before .before .before .loop .inv .1) (c .before .before .before .before .before .before .before .before .before .list-records .ensures)
+returns-2 c =
+    let at-list-records = c .before .before .before .before .before .before .before .before .before in
+    let at-loop = at-list-records .before .before .before .before in
+    let entry = at-loop .before .before .before in
+    listed-part _ (entry .args .s .now) _ (at-loop .loop .listed) _ _ (at-loop .loop .inv .1) (at-list-records .list-records .ensures)
 
 -- src/main.rt:121:18
 same-length-3 : tie.Need-same-length-3 Inv-loop μ-loop
@@ -71,7 +83,11 @@ same-length-3 c = search needs
 
 -- src/main.rt:121:18
 returns-3 : tie.Need-returns-3 Inv-loop μ-loop
-returns-3 c = listed-part _ (c .before .before .before .before .before .before .before .before .before .before .before .before .before .before .before .args .s .now) _ (c .before .before .before .before .before .before .before .before .before .before .before .before .loop .listed) _ _ (c .before .before .before .before .before .before .before .before .before .before .before .before .loop .inv .1) (c .before .before .before .before .before .before .before .before .list-records .ensures)
+returns-3 c =
+    let at-list-records = c .before .before .before .before .before .before .before .before in
+    let at-loop = at-list-records .before .before .before .before in
+    let entry = at-loop .before .before .before in
+    listed-part _ (entry .args .s .now) _ (at-loop .loop .listed) _ _ (at-loop .loop .inv .1) (at-list-records .list-records .ensures)
 
 -- src/main.rt:128:9
 sub-turns : tie.Need-sub-turns Inv-loop μ-loop
@@ -83,7 +99,11 @@ loop-less c = search needs
 
 -- src/main.rt:100:5
 loop-again : tie.Need-loop-again Inv-loop μ-loop
-loop-again c = let h = listed-part _ (c .before .before .before .before .before .before .before .before .before .before .before .before .before .before .before .before .args .s .now) _ (c .before .before .before .before .before .before .before .before .before .before .before .before .before .loop .listed) _ _ (c .before .before .before .before .before .before .before .before .before .before .before .before .before .loop .inv .1) (c .before .before .before .before .before .before .before .before .before .list-records .ensures) in (search needs, h)
+loop-again c =
+    let at-list-records = c .before .before .before .before .before .before .before .before .before in
+    let at-loop = at-list-records .before .before .before .before in
+    let entry = at-loop .before .before .before in
+    let h = listed-part _ (entry .args .s .now) _ (at-loop .loop .listed) _ _ (at-loop .loop .inv .1) (at-list-records .list-records .ensures) in (search needs, h)
 
 -- src/main.rt:94:1
 same-length-4 : tie.Need-same-length-4 Inv-loop μ-loop

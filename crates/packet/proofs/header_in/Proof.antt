@@ -20,7 +20,9 @@ no-view-requires c κs = search needs
 
 -- src/lib.rt:172:9
 returns : tie.Need-returns
-returns c = c .no-view .ensures ∙ nothing-there (c .before .before .before .before .args .protocol) ∙ sym (ap (headerView (c .before .before .before .before .args .protocol)) (text-beyond (now (c .before .before .before .before .args .s)) (c .before .before .before .before .args .t) (c .before .if1 .taken)))
+returns c =
+    let entry = c .before .before .before .before in
+    c .no-view .ensures ∙ nothing-there (entry .args .protocol) ∙ sym (ap (headerView (entry .args .protocol)) (text-beyond (now (entry .args .s)) (entry .args .t) (c .before .if1 .taken)))
 
 -- src/lib.rt:174:8
 sub-if2 : tie.Need-sub-if2
@@ -44,7 +46,10 @@ header-view-requires c κs = search needs
 
 -- src/lib.rt:175:9
 returns-2 : tie.Need-returns-2
-returns-2 c = c .header-view .ensures ∙ ap (headerView (c .before .before .before .before .before .before .args .protocol)) (to-end (now (c .before .before .before .before .before .before .args .s)) (c .before .before .before .before .before .before .args .t .at) ∙ text-rest (now (c .before .before .before .before .before .before .args .s)) (c .before .before .before .before .before .before .args .t) (c .before .before .before .if1 .left) (c .before .before .if2 .taken))
+returns-2 c =
+    let at-if1 = c .before .before .before in
+    let entry = at-if1 .before .before .before in
+    c .header-view .ensures ∙ ap (headerView (entry .args .protocol)) (to-end (now (entry .args .s)) (entry .args .t .at) ∙ text-rest (now (entry .args .s)) (entry .args .t) (at-if1 .if1 .left) (c .before .before .if2 .taken))
 
 -- src/lib.rt:177:24
 add-header-view : tie.Need-add-header-view
@@ -68,7 +73,9 @@ header-view-requires-2 c κs = search needs
 
 -- src/lib.rt:166:1
 returns-3 : tie.Need-returns-3
-returns-3 c = c .header-view2 .ensures ∙ ap (headerView (c .before .before .before .before .before .before .args .protocol)) (text-whole (now (c .before .before .before .before .before .before .args .s)) (c .before .before .before .before .before .before .args .t))
+returns-3 c =
+    let entry = c .before .before .before .before .before .before in
+    c .header-view2 .ensures ∙ ap (headerView (entry .args .protocol)) (text-whole (now (entry .args .s)) (entry .args .t))
 
 pub header-in-spec : {M : Type 1} → statement M
 header-in-spec =

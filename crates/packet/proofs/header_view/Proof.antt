@@ -34,7 +34,11 @@ ipv4-view-requires c κs = search needs
 
 -- src/lib.rt:155:13
 returns : tie.Need-returns
-returns c = c .ipv4-view .ensures ∙ ap ipv4View (to-end (now (c .before .before .before .before .before .before .args .x)) 14) ∙ ethernet-ipv4 (now (c .before .before .before .before .before .before .args .x)) (c .before .before .before .before .before .before .args .protocol) (c .before .before .before .before .if1 .taken) (sym (c .before .before .before .holds-ipv4 .ensures) ∙ c .before .before .if2 .taken)
+returns c =
+    let at-holds-ipv4 = c .before .before .before in
+    let at-if1 = at-holds-ipv4 .before in
+    let entry = at-if1 .before .before in
+    c .ipv4-view .ensures ∙ ap ipv4View (to-end (now (entry .args .x)) 14) ∙ ethernet-ipv4 (now (entry .args .x)) (entry .args .protocol) (at-if1 .if1 .taken) (sym (at-holds-ipv4 .holds-ipv4 .ensures) ∙ c .before .before .if2 .taken)
 
 -- src/lib.rt:157:9
 no-view-requires : tie.Need-no-view-requires
@@ -42,7 +46,10 @@ no-view-requires c κs = search needs
 
 -- src/lib.rt:157:9
 returns-2 : tie.Need-returns-2
-returns-2 c = c .no-view .ensures ∙ ethernet-other (now (c .before .before .before .before .before .args .x)) (c .before .before .before .before .before .args .protocol) (c .before .before .before .if1 .taken) (sym (c .before .before .holds-ipv4 .ensures) ∙ c .before .if2 .left)
+returns-2 c =
+    let at-if1 = c .before .before .before in
+    let entry = at-if1 .before .before in
+    c .no-view .ensures ∙ ethernet-other (now (entry .args .x)) (entry .args .protocol) (at-if1 .if1 .taken) (sym (c .before .before .holds-ipv4 .ensures) ∙ c .before .if2 .left)
 
 -- src/lib.rt:160:9
 ipv4-view-requires-2 : tie.Need-ipv4-view-requires-2
@@ -50,7 +57,9 @@ ipv4-view-requires-2 c κs = search needs
 
 -- src/lib.rt:160:9
 returns-3 : tie.Need-returns-3
-returns-3 c = c .ipv4-view2 .ensures ∙ raw-ipv4 (now (c .before .before .before .before .args .x)) (c .before .before .before .before .args .protocol) (c .before .before .if1 .left) (c .before .if3 .taken)
+returns-3 c =
+    let entry = c .before .before .before .before in
+    c .ipv4-view2 .ensures ∙ raw-ipv4 (now (entry .args .x)) (entry .args .protocol) (c .before .before .if1 .left) (c .before .if3 .taken)
 
 -- src/lib.rt:162:5
 no-view-requires-2 : tie.Need-no-view-requires-2
@@ -58,7 +67,9 @@ no-view-requires-2 c κs = search needs
 
 -- src/lib.rt:150:1
 returns-4 : tie.Need-returns-4
-returns-4 c = c .no-view2 .ensures ∙ no-ip (now (c .before .before .before .before .args .x)) (c .before .before .before .before .args .protocol) (c .before .before .if1 .left) (c .before .if3 .left)
+returns-4 c =
+    let entry = c .before .before .before .before in
+    c .no-view2 .ensures ∙ no-ip (now (entry .args .x)) (entry .args .protocol) (c .before .before .if1 .left) (c .before .if3 .left)
 
 pub header-view-spec : {M : Type 1} → statement M
 header-view-spec =

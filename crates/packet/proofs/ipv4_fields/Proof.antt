@@ -72,7 +72,13 @@ word-of-requires-2 c κs = search needs
 
 -- src/lib.rt:118:1
 returns : tie.Need-returns
-returns c = ipv4-seen (now (c .before .before .before .before .before .before .before .before .before .before .before .before .before .before .before .before .args .x)) (c .before .before .before .before .before .before .before .before .before .before .before .before .before .before .before .before .pre .2) _ _ _ _ _ (c .before .before .before .before .before .word-of .ensures) (c .word-of2 .ensures) (c .before .before .before .before .before .before .before .before .before .before .before .before .before .wide .ensures) (c .before .before .before .before .before .before .before .before .before .before .before .size-of .ensures) (c .before .before .before .before .before .before .before .before .before .before .ports-behind .ensures)
+returns c =
+    let at-word-of = c .before .before .before .before .before in
+    let at-ports-behind = at-word-of .before .before .before .before .before in
+    let at-size-of = at-ports-behind .before in
+    let at-wide = at-size-of .before .before in
+    let entry = at-wide .before .before .before in
+    ipv4-seen (now (entry .args .x)) (entry .pre .2) _ _ _ _ _ (at-word-of .word-of .ensures) (c .word-of2 .ensures) (at-wide .wide .ensures) (at-size-of .size-of .ensures) (at-ports-behind .ports-behind .ensures)
 
 pub ipv4-fields-spec : {M : Type 1} → statement M
 ipv4-fields-spec =

@@ -16,7 +16,9 @@ is-ipv4-requires c κs = search needs
 
 -- src/lib.rt:139:9
 ipv4-fields-requires : tie.Need-ipv4-fields-requires
-ipv4-fields-requires c κs = (ipv4-long (now (c .before .before .before .args .x)) (sym (c .before .is-ipv4 .ensures) ∙ c .if1 .taken), ipv4-header (now (c .before .before .before .args .x)) (sym (c .before .is-ipv4 .ensures) ∙ c .if1 .taken), sym (c .before .is-ipv4 .ensures) ∙ c .if1 .taken)
+ipv4-fields-requires c κs =
+    let entry = c .before .before .before in
+    (ipv4-long (now (entry .args .x)) (sym (c .before .is-ipv4 .ensures) ∙ c .if1 .taken), ipv4-header (now (entry .args .x)) (sym (c .before .is-ipv4 .ensures) ∙ c .if1 .taken), sym (c .before .is-ipv4 .ensures) ∙ c .if1 .taken)
 
 -- src/lib.rt:139:9
 returns : tie.Need-returns

@@ -25,11 +25,19 @@ returns-2 c = other-version (now (c .before .before .before .before .before .arg
 
 -- src/lib.rt:112:9
 returns-3 : tie.Need-returns-3
-returns-3 c = small-header (now (c .before .before .before .before .before .before .args .x)) (c .before .before .before .before .if1 .left) (c .before .if2 .left) (c .before .before .size-of .result) (c .before .before .size-of .ensures) (c .if3 .taken)
+returns-3 c =
+    let at-size-of = c .before .before in
+    let at-if1 = at-size-of .before .before in
+    let entry = at-if1 .before .before in
+    small-header (now (entry .args .x)) (at-if1 .if1 .left) (c .before .if2 .left) (at-size-of .size-of .result) (at-size-of .size-of .ensures) (c .if3 .taken)
 
 -- src/lib.rt:100:1
 returns-4 : tie.Need-returns-4
-returns-4 c = header-tells (now (c .before .before .before .before .before .before .args .x)) (c .before .before .before .before .if1 .left) (c .before .if2 .left) (c .before .before .size-of .result) (c .before .before .size-of .ensures) (c .if3 .left)
+returns-4 c =
+    let at-size-of = c .before .before in
+    let at-if1 = at-size-of .before .before in
+    let entry = at-if1 .before .before in
+    header-tells (now (entry .args .x)) (at-if1 .if1 .left) (c .before .if2 .left) (at-size-of .size-of .result) (at-size-of .size-of .ensures) (c .if3 .left)
 
 pub is-ipv4-spec : {M : Type 1} → statement M
 is-ipv4-spec =

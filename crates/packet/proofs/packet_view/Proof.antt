@@ -26,15 +26,22 @@ enum-known-packet-3 c = search needs
 
 -- src/lib.rt:181:1
 returns : tie.Need-returns
-returns c = c .header-in .ensures ∙ header-data (now (c .before .before .before .before .before .before .args .s)) (c .before .before .before .before .before .before .args .packet) _ (c .before .before .before .packet .given .1)
+returns c =
+    let at-packet = c .before .before .before in
+    let entry = at-packet .before .before .before in
+    c .header-in .ensures ∙ header-data (now (entry .args .s)) (entry .args .packet) _ (at-packet .packet .given .1)
 
 -- src/lib.rt:181:1
 returns-2 : tie.Need-returns-2
-returns-2 c = ipv4-data (now (c .before .before .before .before .args .s)) (c .before .before .before .before .args .packet) _ (c .before .packet2 .given .1)
+returns-2 c =
+    let entry = c .before .before .before .before in
+    ipv4-data (now (entry .args .s)) (entry .args .packet) _ (c .before .packet2 .given .1)
 
 -- src/lib.rt:181:1
 returns-3 : tie.Need-returns-3
-returns-3 c = ipv6-data (now (c .before .before .before .before .args .s)) (c .before .before .before .before .args .packet) _ (c .before .packet3 .given .1)
+returns-3 c =
+    let entry = c .before .before .before .before in
+    ipv6-data (now (entry .args .s)) (entry .args .packet) _ (c .before .packet3 .given .1)
 
 pub packet-view-spec : {M : Type 1} → statement M
 packet-view-spec =

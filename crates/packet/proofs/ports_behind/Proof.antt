@@ -56,15 +56,25 @@ pair-of-requires-2 c κs = search needs
 
 -- src/lib.rt:90:13
 returns : tie.Need-returns
-returns c = let h = c .before .before .before .before .before .before .if2 .taken in let l = c .before .before .before .before .before .before .before .before .before .before .pre in ports-there (now (c .before .before .before .before .before .before .before .before .before .before .args .x)) (c .before .before .before .before .before .before .before .before .before .before .args .protocol) (c .before .before .before .before .before .before .before .before .before .before .args .size) (sym (c .before .before .before .before .before .before .before .before .has-ports .ensures) ∙ c .before .before .before .before .before .before .before .if1 .taken) (omega arith) _ _ (c .before .before .before .pair-of .ensures) (c .pair-of2 .ensures)
+returns c =
+    let at-pair-of = c .before .before .before in
+    let at-if2 = at-pair-of .before .before .before in
+    let at-if1 = at-if2 .before in
+    let at-has-ports = at-if1 .before in
+    let entry = at-has-ports .before .before in
+    let h = at-if2 .if2 .taken in let l = entry .pre in ports-there (now (entry .args .x)) (entry .args .protocol) (entry .args .size) (sym (at-has-ports .has-ports .ensures) ∙ at-if1 .if1 .taken) (omega arith) _ _ (at-pair-of .pair-of .ensures) (c .pair-of2 .ensures)
 
 -- src/lib.rt:84:1
 returns-2 : tie.Need-returns-2
-returns-2 c = let h = c .if2 .left in let l = c .before .before .before .before .pre in ports-cut (now (c .before .before .before .before .args .x)) (c .before .before .before .before .args .protocol) (c .before .before .before .before .args .size) (sym (c .before .before .has-ports .ensures) ∙ c .before .if1 .taken) (omega arith)
+returns-2 c =
+    let entry = c .before .before .before .before in
+    let h = c .if2 .left in let l = entry .pre in ports-cut (now (entry .args .x)) (entry .args .protocol) (entry .args .size) (sym (c .before .before .has-ports .ensures) ∙ c .before .if1 .taken) (omega arith)
 
 -- src/lib.rt:84:1
 returns-3 : tie.Need-returns-3
-returns-3 c = ports-none (now (c .before .before .before .args .x)) (c .before .before .before .args .protocol) (c .before .before .before .args .size) (sym (c .before .has-ports .ensures) ∙ c .if1 .left)
+returns-3 c =
+    let entry = c .before .before .before in
+    ports-none (now (entry .args .x)) (entry .args .protocol) (entry .args .size) (sym (c .before .has-ports .ensures) ∙ c .if1 .left)
 
 pub ports-behind-spec : {M : Type 1} → statement M
 ports-behind-spec =

@@ -33,7 +33,12 @@ enum-told-2 : tie.Need-enum-told-2
 enum-told-2 c = search needs
 
 returns-4 : tie.Need-returns-4
-returns-4 c = sym (passed-view _ _ _ _ _ (header-frame-cut _ _ _ _ (sym (c .before .before .before .before .before .before .before .before .read-word .ensures) ∙ c .before .before .before .before .before .before .protocol .given .1) (c .before .before .before .before .if1 .left) (c .before .before .before .if2 .left) _ (sym (c .before .before .read-word2 .ensures) ∙ c .enum-told2 .given .1)))
+returns-4 c =
+    let at-if2 = c .before .before .before in
+    let at-if1 = at-if2 .before in
+    let at-protocol = at-if1 .before .before in
+    let at-read-word = at-protocol .before .before in
+    sym (passed-view _ _ _ _ _ (header-frame-cut _ _ _ _ (sym (at-read-word .read-word .ensures) ∙ at-protocol .protocol .given .1) (at-if1 .if1 .left) (at-if2 .if2 .left) _ (sym (c .before .before .read-word2 .ensures) ∙ c .enum-told2 .given .1)))
 
 read-word-requires-3 : tie.Need-read-word-requires-3
 read-word-requires-3 c κs = search needs
@@ -45,16 +50,40 @@ enum-told-3 : tie.Need-enum-told-3
 enum-told-3 c = search needs
 
 returns-5 : tie.Need-returns-5
-returns-5 c = sym (passed-view _ _ _ _ _ (header-length-cut _ _ _ _ (sym (c .before .before .before .before .before .before .before .before .before .before .before .before .read-word .ensures) ∙ c .before .before .before .before .before .before .before .before .before .before .protocol .given .1) (c .before .before .before .before .before .before .before .before .if1 .left) (c .before .before .before .before .before .before .before .if2 .left) _ _ (sym (c .before .before .before .before .before .before .read-word2 .ensures) ∙ c .before .before .before .before .length-at .given .1) _ (sym (c .before .before .read-word3 .ensures) ∙ c .enum-told3 .given .1)))
+returns-5 c =
+    let at-length-at = c .before .before .before .before in
+    let at-read-word2 = at-length-at .before .before in
+    let at-if2 = at-read-word2 .before in
+    let at-if1 = at-if2 .before in
+    let at-protocol = at-if1 .before .before in
+    let at-read-word = at-protocol .before .before in
+    sym (passed-view _ _ _ _ _ (header-length-cut _ _ _ _ (sym (at-read-word .read-word .ensures) ∙ at-protocol .protocol .given .1) (at-if1 .if1 .left) (at-if2 .if2 .left) _ _ (sym (at-read-word2 .read-word2 .ensures) ∙ at-length-at .length-at .given .1) _ (sym (c .before .before .read-word3 .ensures) ∙ c .enum-told3 .given .1)))
 
 pass-octets-requires : tie.Need-pass-octets-requires
 pass-octets-requires c κs = search needs
 
 returns-6 : tie.Need-returns-6
-returns-6 c = c .pass-octets .ensures ∙ sym (header-passed _ _ _ _ (sym (c .before .before .before .before .before .before .before .before .before .before .before .before .before .before .before .read-word .ensures) ∙ c .before .before .before .before .before .before .before .before .before .before .before .before .before .protocol .given .1) (c .before .before .before .before .before .before .before .before .before .before .before .if1 .left) (c .before .before .before .before .before .before .before .before .before .before .if2 .left) _ _ (sym (c .before .before .before .before .before .before .before .before .before .read-word2 .ensures) ∙ c .before .before .before .before .before .before .before .length-at .given .1) _ _ (sym (c .before .before .before .before .before .read-word3 .ensures) ∙ c .before .before .before .length .given .1) (c .before .if3 .taken))
+returns-6 c =
+    let at-length = c .before .before .before in
+    let at-read-word3 = at-length .before .before in
+    let at-length-at = at-read-word3 .before .before in
+    let at-read-word2 = at-length-at .before .before in
+    let at-if2 = at-read-word2 .before in
+    let at-if1 = at-if2 .before in
+    let at-protocol = at-if1 .before .before in
+    let at-read-word = at-protocol .before .before in
+    c .pass-octets .ensures ∙ sym (header-passed _ _ _ _ (sym (at-read-word .read-word .ensures) ∙ at-protocol .protocol .given .1) (at-if1 .if1 .left) (at-if2 .if2 .left) _ _ (sym (at-read-word2 .read-word2 .ensures) ∙ at-length-at .length-at .given .1) _ _ (sym (at-read-word3 .read-word3 .ensures) ∙ at-length .length .given .1) (c .before .if3 .taken))
 
 returns-7 : tie.Need-returns-7
-returns-7 c = sym (passed-view _ _ _ _ _ (header-long _ _ _ _ (sym (c .before .before .before .before .before .before .before .before .before .before .before .before .before .before .read-word .ensures) ∙ c .before .before .before .before .before .before .before .before .before .before .before .before .protocol .given .1) (c .before .before .before .before .before .before .before .before .before .before .if1 .left) (c .before .before .before .before .before .before .before .before .before .if2 .left) _ _ (sym (c .before .before .before .before .before .before .before .before .read-word2 .ensures) ∙ c .before .before .before .before .before .before .length-at .given .1) _ _ (sym (c .before .before .before .before .read-word3 .ensures) ∙ c .before .before .length .given .1) (c .if3 .left)))
+returns-7 c =
+    let at-read-word3 = c .before .before .before .before in
+    let at-length-at = at-read-word3 .before .before in
+    let at-read-word2 = at-length-at .before .before in
+    let at-if2 = at-read-word2 .before in
+    let at-if1 = at-if2 .before in
+    let at-protocol = at-if1 .before .before in
+    let at-read-word = at-protocol .before .before in
+    sym (passed-view _ _ _ _ _ (header-long _ _ _ _ (sym (at-read-word .read-word .ensures) ∙ at-protocol .protocol .given .1) (at-if1 .if1 .left) (at-if2 .if2 .left) _ _ (sym (at-read-word2 .read-word2 .ensures) ∙ at-length-at .length-at .given .1) _ _ (sym (at-read-word3 .read-word3 .ensures) ∙ c .before .before .length .given .1) (c .if3 .left)))
 
 pub pass-header-spec : {M : Type 1} → statement M
 pass-header-spec =

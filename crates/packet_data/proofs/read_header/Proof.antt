@@ -33,7 +33,12 @@ enum-told-2 : tie.Need-enum-told-2
 enum-told-2 c = search needs
 
 returns-4 : tie.Need-returns-4
-returns-4 c = sym (ap asPacket (header-frame-cut _ _ _ _ (sym (c .before .before .before .before .before .before .before .before .read-word .ensures) ∙ c .before .before .before .before .before .before .protocol .given .1) (c .before .before .before .before .if1 .left) (c .before .before .before .if2 .left) _ (sym (c .before .before .read-word2 .ensures) ∙ c .enum-told2 .given .1)))
+returns-4 c =
+    let at-if2 = c .before .before .before in
+    let at-if1 = at-if2 .before in
+    let at-protocol = at-if1 .before .before in
+    let at-read-word = at-protocol .before .before in
+    sym (ap asPacket (header-frame-cut _ _ _ _ (sym (at-read-word .read-word .ensures) ∙ at-protocol .protocol .given .1) (at-if1 .if1 .left) (at-if2 .if2 .left) _ (sym (c .before .before .read-word2 .ensures) ∙ c .enum-told2 .given .1)))
 
 read-word-requires-3 : tie.Need-read-word-requires-3
 read-word-requires-3 c κs = search needs
@@ -45,10 +50,25 @@ enum-told-3 : tie.Need-enum-told-3
 enum-told-3 c = search needs
 
 returns-5 : tie.Need-returns-5
-returns-5 c = sym (ap asPacket (header-length-cut _ _ _ _ (sym (c .before .before .before .before .before .before .before .before .before .before .before .before .read-word .ensures) ∙ c .before .before .before .before .before .before .before .before .before .before .protocol .given .1) (c .before .before .before .before .before .before .before .before .if1 .left) (c .before .before .before .before .before .before .before .if2 .left) _ _ (sym (c .before .before .before .before .before .before .read-word2 .ensures) ∙ c .before .before .before .before .frame-length .given .1) _ (sym (c .before .before .read-word3 .ensures) ∙ c .enum-told3 .given .1)))
+returns-5 c =
+    let at-frame-length = c .before .before .before .before in
+    let at-read-word2 = at-frame-length .before .before in
+    let at-if2 = at-read-word2 .before in
+    let at-if1 = at-if2 .before in
+    let at-protocol = at-if1 .before .before in
+    let at-read-word = at-protocol .before .before in
+    sym (ap asPacket (header-length-cut _ _ _ _ (sym (at-read-word .read-word .ensures) ∙ at-protocol .protocol .given .1) (at-if1 .if1 .left) (at-if2 .if2 .left) _ _ (sym (at-read-word2 .read-word2 .ensures) ∙ at-frame-length .frame-length .given .1) _ (sym (c .before .before .read-word3 .ensures) ∙ c .enum-told3 .given .1)))
 
 returns-6 : tie.Need-returns-6
-returns-6 c = sym (ap asPacket (header-long _ _ _ _ (sym (c .before .before .before .before .before .before .before .before .before .before .before .before .before .before .read-word .ensures) ∙ c .before .before .before .before .before .before .before .before .before .before .before .before .protocol .given .1) (c .before .before .before .before .before .before .before .before .before .before .if1 .left) (c .before .before .before .before .before .before .before .before .before .if2 .left) _ _ (sym (c .before .before .before .before .before .before .before .before .read-word2 .ensures) ∙ c .before .before .before .before .before .before .frame-length .given .1) _ _ (sym (c .before .before .before .before .read-word3 .ensures) ∙ c .before .before .length .given .1) (c .if3 .taken)))
+returns-6 c =
+    let at-read-word3 = c .before .before .before .before in
+    let at-frame-length = at-read-word3 .before .before in
+    let at-read-word2 = at-frame-length .before .before in
+    let at-if2 = at-read-word2 .before in
+    let at-if1 = at-if2 .before in
+    let at-protocol = at-if1 .before .before in
+    let at-read-word = at-protocol .before .before in
+    sym (ap asPacket (header-long _ _ _ _ (sym (at-read-word .read-word .ensures) ∙ at-protocol .protocol .given .1) (at-if1 .if1 .left) (at-if2 .if2 .left) _ _ (sym (at-read-word2 .read-word2 .ensures) ∙ at-frame-length .frame-length .given .1) _ _ (sym (at-read-word3 .read-word3 .ensures) ∙ c .before .before .length .given .1) (c .if3 .taken)))
 
 pass-octets-requires : tie.Need-pass-octets-requires
 pass-octets-requires c κs = search needs
@@ -60,10 +80,32 @@ enum-known-why : tie.Need-enum-known-why
 enum-known-why c = search needs
 
 returns-7 : tie.Need-returns-7
-returns-7 c = sym (ap asPacket (header-found _ _ _ _ (sym (c .before .before .before .before .before .before .before .before .before .before .before .before .before .before .before .before .before .before .read-word .ensures) ∙ c .before .before .before .before .before .before .before .before .before .before .before .before .before .before .before .before .protocol .given .1) (c .before .before .before .before .before .before .before .before .before .before .before .before .before .before .if1 .left) (c .before .before .before .before .before .before .before .before .before .before .before .before .before .if2 .left) _ _ (sym (c .before .before .before .before .before .before .before .before .before .before .before .before .read-word2 .ensures) ∙ c .before .before .before .before .before .before .before .before .before .before .frame-length .given .1) _ _ _ (sym (c .before .before .before .before .before .before .before .before .read-word3 .ensures) ∙ c .before .before .before .before .before .before .length .given .1) (c .before .before .before .before .if3 .left) (sym (c .before .before .before .pass-octets .ensures) ∙ c .before .next .given .1)))
+returns-7 c =
+    let at-pass-octets = c .before .before .before in
+    let at-if3 = at-pass-octets .before in
+    let at-length = at-if3 .before .before in
+    let at-read-word3 = at-length .before .before in
+    let at-frame-length = at-read-word3 .before .before in
+    let at-read-word2 = at-frame-length .before .before in
+    let at-if2 = at-read-word2 .before in
+    let at-if1 = at-if2 .before in
+    let at-protocol = at-if1 .before .before in
+    let at-read-word = at-protocol .before .before in
+    sym (ap asPacket (header-found _ _ _ _ (sym (at-read-word .read-word .ensures) ∙ at-protocol .protocol .given .1) (at-if1 .if1 .left) (at-if2 .if2 .left) _ _ (sym (at-read-word2 .read-word2 .ensures) ∙ at-frame-length .frame-length .given .1) _ _ _ (sym (at-read-word3 .read-word3 .ensures) ∙ at-length .length .given .1) (at-if3 .if3 .left) (sym (at-pass-octets .pass-octets .ensures) ∙ c .before .next .given .1)))
 
 returns-8 : tie.Need-returns-8
-returns-8 c = sym (ap asPacket (header-refused _ _ _ _ (sym (c .before .before .before .before .before .before .before .before .before .before .before .before .before .before .before .before .before .before .read-word .ensures) ∙ c .before .before .before .before .before .before .before .before .before .before .before .before .before .before .before .before .protocol .given .1) (c .before .before .before .before .before .before .before .before .before .before .before .before .before .before .if1 .left) (c .before .before .before .before .before .before .before .before .before .before .before .before .before .if2 .left) _ _ (sym (c .before .before .before .before .before .before .before .before .before .before .before .before .read-word2 .ensures) ∙ c .before .before .before .before .before .before .before .before .before .before .frame-length .given .1) _ _ _ _ (sym (c .before .before .before .before .before .before .before .before .read-word3 .ensures) ∙ c .before .before .before .before .before .before .length .given .1) (c .before .before .before .before .if3 .left) (sym (c .before .before .before .pass-octets .ensures) ∙ c .before .why .given .1)))
+returns-8 c =
+    let at-pass-octets = c .before .before .before in
+    let at-if3 = at-pass-octets .before in
+    let at-length = at-if3 .before .before in
+    let at-read-word3 = at-length .before .before in
+    let at-frame-length = at-read-word3 .before .before in
+    let at-read-word2 = at-frame-length .before .before in
+    let at-if2 = at-read-word2 .before in
+    let at-if1 = at-if2 .before in
+    let at-protocol = at-if1 .before .before in
+    let at-read-word = at-protocol .before .before in
+    sym (ap asPacket (header-refused _ _ _ _ (sym (at-read-word .read-word .ensures) ∙ at-protocol .protocol .given .1) (at-if1 .if1 .left) (at-if2 .if2 .left) _ _ (sym (at-read-word2 .read-word2 .ensures) ∙ at-frame-length .frame-length .given .1) _ _ _ _ (sym (at-read-word3 .read-word3 .ensures) ∙ at-length .length .given .1) (at-if3 .if3 .left) (sym (at-pass-octets .pass-octets .ensures) ∙ c .before .why .given .1)))
 
 pub read-header-spec : {M : Type 1} → statement M
 read-header-spec =

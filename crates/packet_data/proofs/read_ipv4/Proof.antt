@@ -40,7 +40,12 @@ enum-told-3 : tie.Need-enum-told-3
 enum-told-3 c = search needs
 
 returns-3 : tie.Need-returns-3
-returns-3 c = sym (ap asPacket (ipv4-reads (word-then (sym (c .before .before .before .before .before .before .before .before .before .before .read-word .ensures) ∙ c .before .before .before .before .before .before .before .before .length .given .1) (word-then (sym (c .before .before .before .before .before .before .read-word2 .ensures) ∙ c .before .before .before .before .protocol .given .1) (word-cut (sym (c .before .before .read-word3 .ensures) ∙ c .enum-told3 .given .1))))))
+returns-3 c =
+    let at-protocol = c .before .before .before .before in
+    let at-read-word2 = at-protocol .before .before in
+    let at-length = at-read-word2 .before .before in
+    let at-read-word = at-length .before .before in
+    sym (ap asPacket (ipv4-reads (word-then (sym (at-read-word .read-word .ensures) ∙ at-length .length .given .1) (word-then (sym (at-read-word2 .read-word2 .ensures) ∙ at-protocol .protocol .given .1) (word-cut (sym (c .before .before .read-word3 .ensures) ∙ c .enum-told3 .given .1))))))
 
 read-word-requires-4 : tie.Need-read-word-requires-4
 read-word-requires-4 c κs = search needs
@@ -52,7 +57,14 @@ enum-told-4 : tie.Need-enum-told-4
 enum-told-4 c = search needs
 
 returns-4 : tie.Need-returns-4
-returns-4 c = sym (ap asPacket (ipv4-reads (word-then (sym (c .before .before .before .before .before .before .before .before .before .before .before .before .before .before .read-word .ensures) ∙ c .before .before .before .before .before .before .before .before .before .before .before .before .length .given .1) (word-then (sym (c .before .before .before .before .before .before .before .before .before .before .read-word2 .ensures) ∙ c .before .before .before .before .before .before .before .before .protocol .given .1) (word-then (sym (c .before .before .before .before .before .before .read-word3 .ensures) ∙ c .before .before .before .before .src-ip .given .1) (word-cut (sym (c .before .before .read-word4 .ensures) ∙ c .enum-told4 .given .1)))))))
+returns-4 c =
+    let at-src-ip = c .before .before .before .before in
+    let at-read-word3 = at-src-ip .before .before in
+    let at-protocol = at-read-word3 .before .before in
+    let at-read-word2 = at-protocol .before .before in
+    let at-length = at-read-word2 .before .before in
+    let at-read-word = at-length .before .before in
+    sym (ap asPacket (ipv4-reads (word-then (sym (at-read-word .read-word .ensures) ∙ at-length .length .given .1) (word-then (sym (at-read-word2 .read-word2 .ensures) ∙ at-protocol .protocol .given .1) (word-then (sym (at-read-word3 .read-word3 .ensures) ∙ at-src-ip .src-ip .given .1) (word-cut (sym (c .before .before .read-word4 .ensures) ∙ c .enum-told4 .given .1)))))))
 
 read-word-requires-5 : tie.Need-read-word-requires-5
 read-word-requires-5 c κs = search needs
@@ -64,7 +76,16 @@ enum-told-5 : tie.Need-enum-told-5
 enum-told-5 c = search needs
 
 returns-5 : tie.Need-returns-5
-returns-5 c = sym (ap asPacket (ipv4-reads (word-then (sym (c .before .before .before .before .before .before .before .before .before .before .before .before .before .before .before .before .before .before .read-word .ensures) ∙ c .before .before .before .before .before .before .before .before .before .before .before .before .before .before .before .before .length .given .1) (word-then (sym (c .before .before .before .before .before .before .before .before .before .before .before .before .before .before .read-word2 .ensures) ∙ c .before .before .before .before .before .before .before .before .before .before .before .before .protocol .given .1) (word-then (sym (c .before .before .before .before .before .before .before .before .before .before .read-word3 .ensures) ∙ c .before .before .before .before .before .before .before .before .src-ip .given .1) (word-then (sym (c .before .before .before .before .before .before .read-word4 .ensures) ∙ c .before .before .before .before .dst-ip .given .1) (word-cut (sym (c .before .before .read-word5 .ensures) ∙ c .enum-told5 .given .1))))))))
+returns-5 c =
+    let at-dst-ip = c .before .before .before .before in
+    let at-read-word4 = at-dst-ip .before .before in
+    let at-src-ip = at-read-word4 .before .before in
+    let at-read-word3 = at-src-ip .before .before in
+    let at-protocol = at-read-word3 .before .before in
+    let at-read-word2 = at-protocol .before .before in
+    let at-length = at-read-word2 .before .before in
+    let at-read-word = at-length .before .before in
+    sym (ap asPacket (ipv4-reads (word-then (sym (at-read-word .read-word .ensures) ∙ at-length .length .given .1) (word-then (sym (at-read-word2 .read-word2 .ensures) ∙ at-protocol .protocol .given .1) (word-then (sym (at-read-word3 .read-word3 .ensures) ∙ at-src-ip .src-ip .given .1) (word-then (sym (at-read-word4 .read-word4 .ensures) ∙ at-dst-ip .dst-ip .given .1) (word-cut (sym (c .before .before .read-word5 .ensures) ∙ c .enum-told5 .given .1))))))))
 
 read-word-requires-6 : tie.Need-read-word-requires-6
 read-word-requires-6 c κs = search needs
@@ -76,7 +97,18 @@ enum-told-6 : tie.Need-enum-told-6
 enum-told-6 c = search needs
 
 returns-6 : tie.Need-returns-6
-returns-6 c = sym (ap asPacket (ipv4-reads (word-then (sym (c .before .before .before .before .before .before .before .before .before .before .before .before .before .before .before .before .before .before .before .before .before .before .read-word .ensures) ∙ c .before .before .before .before .before .before .before .before .before .before .before .before .before .before .before .before .before .before .before .before .length .given .1) (word-then (sym (c .before .before .before .before .before .before .before .before .before .before .before .before .before .before .before .before .before .before .read-word2 .ensures) ∙ c .before .before .before .before .before .before .before .before .before .before .before .before .before .before .before .before .protocol .given .1) (word-then (sym (c .before .before .before .before .before .before .before .before .before .before .before .before .before .before .read-word3 .ensures) ∙ c .before .before .before .before .before .before .before .before .before .before .before .before .src-ip .given .1) (word-then (sym (c .before .before .before .before .before .before .before .before .before .before .read-word4 .ensures) ∙ c .before .before .before .before .before .before .before .before .dst-ip .given .1) (word-then (sym (c .before .before .before .before .before .before .read-word5 .ensures) ∙ c .before .before .before .before .src-port .given .1) (word-cut (sym (c .before .before .read-word6 .ensures) ∙ c .enum-told6 .given .1)))))))))
+returns-6 c =
+    let at-src-port = c .before .before .before .before in
+    let at-read-word5 = at-src-port .before .before in
+    let at-dst-ip = at-read-word5 .before .before in
+    let at-read-word4 = at-dst-ip .before .before in
+    let at-src-ip = at-read-word4 .before .before in
+    let at-read-word3 = at-src-ip .before .before in
+    let at-protocol = at-read-word3 .before .before in
+    let at-read-word2 = at-protocol .before .before in
+    let at-length = at-read-word2 .before .before in
+    let at-read-word = at-length .before .before in
+    sym (ap asPacket (ipv4-reads (word-then (sym (at-read-word .read-word .ensures) ∙ at-length .length .given .1) (word-then (sym (at-read-word2 .read-word2 .ensures) ∙ at-protocol .protocol .given .1) (word-then (sym (at-read-word3 .read-word3 .ensures) ∙ at-src-ip .src-ip .given .1) (word-then (sym (at-read-word4 .read-word4 .ensures) ∙ at-dst-ip .dst-ip .given .1) (word-then (sym (at-read-word5 .read-word5 .ensures) ∙ at-src-port .src-port .given .1) (word-cut (sym (c .before .before .read-word6 .ensures) ∙ c .enum-told6 .given .1)))))))))
 
 read-word-requires-7 : tie.Need-read-word-requires-7
 read-word-requires-7 c κs = search needs
@@ -88,7 +120,20 @@ enum-told-7 : tie.Need-enum-told-7
 enum-told-7 c = search needs
 
 returns-7 : tie.Need-returns-7
-returns-7 c = sym (ap asPacket (ipv4-reads (word-then (sym (c .before .before .before .before .before .before .before .before .before .before .before .before .before .before .before .before .before .before .before .before .before .before .before .before .before .before .read-word .ensures) ∙ c .before .before .before .before .before .before .before .before .before .before .before .before .before .before .before .before .before .before .before .before .before .before .before .before .length .given .1) (word-then (sym (c .before .before .before .before .before .before .before .before .before .before .before .before .before .before .before .before .before .before .before .before .before .before .read-word2 .ensures) ∙ c .before .before .before .before .before .before .before .before .before .before .before .before .before .before .before .before .before .before .before .before .protocol .given .1) (word-then (sym (c .before .before .before .before .before .before .before .before .before .before .before .before .before .before .before .before .before .before .read-word3 .ensures) ∙ c .before .before .before .before .before .before .before .before .before .before .before .before .before .before .before .before .src-ip .given .1) (word-then (sym (c .before .before .before .before .before .before .before .before .before .before .before .before .before .before .read-word4 .ensures) ∙ c .before .before .before .before .before .before .before .before .before .before .before .before .dst-ip .given .1) (word-then (sym (c .before .before .before .before .before .before .before .before .before .before .read-word5 .ensures) ∙ c .before .before .before .before .before .before .before .before .src-port .given .1) (word-then (sym (c .before .before .before .before .before .before .read-word6 .ensures) ∙ c .before .before .before .before .dst-port .given .1) (word-cut (sym (c .before .before .read-word7 .ensures) ∙ c .enum-told7 .given .1))))))))))
+returns-7 c =
+    let at-dst-port = c .before .before .before .before in
+    let at-read-word6 = at-dst-port .before .before in
+    let at-src-port = at-read-word6 .before .before in
+    let at-read-word5 = at-src-port .before .before in
+    let at-dst-ip = at-read-word5 .before .before in
+    let at-read-word4 = at-dst-ip .before .before in
+    let at-src-ip = at-read-word4 .before .before in
+    let at-read-word3 = at-src-ip .before .before in
+    let at-protocol = at-read-word3 .before .before in
+    let at-read-word2 = at-protocol .before .before in
+    let at-length = at-read-word2 .before .before in
+    let at-read-word = at-length .before .before in
+    sym (ap asPacket (ipv4-reads (word-then (sym (at-read-word .read-word .ensures) ∙ at-length .length .given .1) (word-then (sym (at-read-word2 .read-word2 .ensures) ∙ at-protocol .protocol .given .1) (word-then (sym (at-read-word3 .read-word3 .ensures) ∙ at-src-ip .src-ip .given .1) (word-then (sym (at-read-word4 .read-word4 .ensures) ∙ at-dst-ip .dst-ip .given .1) (word-then (sym (at-read-word5 .read-word5 .ensures) ∙ at-src-port .src-port .given .1) (word-then (sym (at-read-word6 .read-word6 .ensures) ∙ at-dst-port .dst-port .given .1) (word-cut (sym (c .before .before .read-word7 .ensures) ∙ c .enum-told7 .given .1))))))))))
 
 read-word-requires-8 : tie.Need-read-word-requires-8
 read-word-requires-8 c κs = search needs
@@ -100,10 +145,41 @@ enum-told-8 : tie.Need-enum-told-8
 enum-told-8 c = search needs
 
 returns-8 : tie.Need-returns-8
-returns-8 c = sym (ap asPacket (ipv4-reads (word-then (sym (c .before .before .before .before .before .before .before .before .before .before .before .before .before .before .before .before .before .before .before .before .before .before .before .before .before .before .before .before .before .before .read-word .ensures) ∙ c .before .before .before .before .before .before .before .before .before .before .before .before .before .before .before .before .before .before .before .before .before .before .before .before .before .before .before .before .length .given .1) (word-then (sym (c .before .before .before .before .before .before .before .before .before .before .before .before .before .before .before .before .before .before .before .before .before .before .before .before .before .before .read-word2 .ensures) ∙ c .before .before .before .before .before .before .before .before .before .before .before .before .before .before .before .before .before .before .before .before .before .before .before .before .protocol .given .1) (word-then (sym (c .before .before .before .before .before .before .before .before .before .before .before .before .before .before .before .before .before .before .before .before .before .before .read-word3 .ensures) ∙ c .before .before .before .before .before .before .before .before .before .before .before .before .before .before .before .before .before .before .before .before .src-ip .given .1) (word-then (sym (c .before .before .before .before .before .before .before .before .before .before .before .before .before .before .before .before .before .before .read-word4 .ensures) ∙ c .before .before .before .before .before .before .before .before .before .before .before .before .before .before .before .before .dst-ip .given .1) (word-then (sym (c .before .before .before .before .before .before .before .before .before .before .before .before .before .before .read-word5 .ensures) ∙ c .before .before .before .before .before .before .before .before .before .before .before .before .src-port .given .1) (word-then (sym (c .before .before .before .before .before .before .before .before .before .before .read-word6 .ensures) ∙ c .before .before .before .before .before .before .before .before .dst-port .given .1) (word-then (sym (c .before .before .before .before .before .before .read-word7 .ensures) ∙ c .before .before .before .before .tcp-flags .given .1) (word-cut (sym (c .before .before .read-word8 .ensures) ∙ c .enum-told8 .given .1)))))))))))
+returns-8 c =
+    let at-tcp-flags = c .before .before .before .before in
+    let at-read-word7 = at-tcp-flags .before .before in
+    let at-dst-port = at-read-word7 .before .before in
+    let at-read-word6 = at-dst-port .before .before in
+    let at-src-port = at-read-word6 .before .before in
+    let at-read-word5 = at-src-port .before .before in
+    let at-dst-ip = at-read-word5 .before .before in
+    let at-read-word4 = at-dst-ip .before .before in
+    let at-src-ip = at-read-word4 .before .before in
+    let at-read-word3 = at-src-ip .before .before in
+    let at-protocol = at-read-word3 .before .before in
+    let at-read-word2 = at-protocol .before .before in
+    let at-length = at-read-word2 .before .before in
+    let at-read-word = at-length .before .before in
+    sym (ap asPacket (ipv4-reads (word-then (sym (at-read-word .read-word .ensures) ∙ at-length .length .given .1) (word-then (sym (at-read-word2 .read-word2 .ensures) ∙ at-protocol .protocol .given .1) (word-then (sym (at-read-word3 .read-word3 .ensures) ∙ at-src-ip .src-ip .given .1) (word-then (sym (at-read-word4 .read-word4 .ensures) ∙ at-dst-ip .dst-ip .given .1) (word-then (sym (at-read-word5 .read-word5 .ensures) ∙ at-src-port .src-port .given .1) (word-then (sym (at-read-word6 .read-word6 .ensures) ∙ at-dst-port .dst-port .given .1) (word-then (sym (at-read-word7 .read-word7 .ensures) ∙ at-tcp-flags .tcp-flags .given .1) (word-cut (sym (c .before .before .read-word8 .ensures) ∙ c .enum-told8 .given .1)))))))))))
 
 returns-9 : tie.Need-returns-9
-returns-9 c = sym (ap asPacket (ipv4-reads (word-then (sym (c .before .before .before .before .before .before .before .before .before .before .before .before .before .before .before .before .before .before .before .before .before .before .before .before .before .before .before .before .before .before .before .read-word .ensures) ∙ c .before .before .before .before .before .before .before .before .before .before .before .before .before .before .before .before .before .before .before .before .before .before .before .before .before .before .before .before .before .length .given .1) (word-then (sym (c .before .before .before .before .before .before .before .before .before .before .before .before .before .before .before .before .before .before .before .before .before .before .before .before .before .before .before .read-word2 .ensures) ∙ c .before .before .before .before .before .before .before .before .before .before .before .before .before .before .before .before .before .before .before .before .before .before .before .before .before .protocol .given .1) (word-then (sym (c .before .before .before .before .before .before .before .before .before .before .before .before .before .before .before .before .before .before .before .before .before .before .before .read-word3 .ensures) ∙ c .before .before .before .before .before .before .before .before .before .before .before .before .before .before .before .before .before .before .before .before .before .src-ip .given .1) (word-then (sym (c .before .before .before .before .before .before .before .before .before .before .before .before .before .before .before .before .before .before .before .read-word4 .ensures) ∙ c .before .before .before .before .before .before .before .before .before .before .before .before .before .before .before .before .before .dst-ip .given .1) (word-then (sym (c .before .before .before .before .before .before .before .before .before .before .before .before .before .before .before .read-word5 .ensures) ∙ c .before .before .before .before .before .before .before .before .before .before .before .before .before .src-port .given .1) (word-then (sym (c .before .before .before .before .before .before .before .before .before .before .before .read-word6 .ensures) ∙ c .before .before .before .before .before .before .before .before .before .dst-port .given .1) (word-then (sym (c .before .before .before .before .before .before .before .read-word7 .ensures) ∙ c .before .before .before .before .before .tcp-flags .given .1) (word-then (sym (c .before .before .before .read-word8 .ensures) ∙ c .before .tos .given .1) no-more))))))))))
+returns-9 c =
+    let at-read-word8 = c .before .before .before in
+    let at-tcp-flags = at-read-word8 .before .before in
+    let at-read-word7 = at-tcp-flags .before .before in
+    let at-dst-port = at-read-word7 .before .before in
+    let at-read-word6 = at-dst-port .before .before in
+    let at-src-port = at-read-word6 .before .before in
+    let at-read-word5 = at-src-port .before .before in
+    let at-dst-ip = at-read-word5 .before .before in
+    let at-read-word4 = at-dst-ip .before .before in
+    let at-src-ip = at-read-word4 .before .before in
+    let at-read-word3 = at-src-ip .before .before in
+    let at-protocol = at-read-word3 .before .before in
+    let at-read-word2 = at-protocol .before .before in
+    let at-length = at-read-word2 .before .before in
+    let at-read-word = at-length .before .before in
+    sym (ap asPacket (ipv4-reads (word-then (sym (at-read-word .read-word .ensures) ∙ at-length .length .given .1) (word-then (sym (at-read-word2 .read-word2 .ensures) ∙ at-protocol .protocol .given .1) (word-then (sym (at-read-word3 .read-word3 .ensures) ∙ at-src-ip .src-ip .given .1) (word-then (sym (at-read-word4 .read-word4 .ensures) ∙ at-dst-ip .dst-ip .given .1) (word-then (sym (at-read-word5 .read-word5 .ensures) ∙ at-src-port .src-port .given .1) (word-then (sym (at-read-word6 .read-word6 .ensures) ∙ at-dst-port .dst-port .given .1) (word-then (sym (at-read-word7 .read-word7 .ensures) ∙ at-tcp-flags .tcp-flags .given .1) (word-then (sym (at-read-word8 .read-word8 .ensures) ∙ c .before .tos .given .1) no-more))))))))))
 
 pub read-ipv4-spec : {M : Type 1} → statement M
 read-ipv4-spec =

@@ -52,7 +52,12 @@ enum-told-3 c = search needs
 
 -- src/lib.rt:142:9
 returns-3 : tie.Need-returns-3
-returns-3 c = sym (ap asPacket (ipv6-reads (word-then (sym (c .before .before .before .before .before .before .before .before .before .before .read-word .ensures) ∙ c .before .before .before .before .before .before .before .before .length .given .1) (word-then (sym (c .before .before .before .before .before .before .read-word2 .ensures) ∙ c .before .before .before .before .protocol .given .1) (quad-cut (sym (c .before .before .read-quad .ensures) ∙ c .enum-told3 .given .1))))))
+returns-3 c =
+    let at-protocol = c .before .before .before .before in
+    let at-read-word2 = at-protocol .before .before in
+    let at-length = at-read-word2 .before .before in
+    let at-read-word = at-length .before .before in
+    sym (ap asPacket (ipv6-reads (word-then (sym (at-read-word .read-word .ensures) ∙ at-length .length .given .1) (word-then (sym (at-read-word2 .read-word2 .ensures) ∙ at-protocol .protocol .given .1) (quad-cut (sym (c .before .before .read-quad .ensures) ∙ c .enum-told3 .given .1))))))
 
 -- src/lib.rt:144:46
 read-quad-requires-2 : tie.Need-read-quad-requires-2
@@ -68,7 +73,14 @@ enum-told-4 c = search needs
 
 -- src/lib.rt:145:9
 returns-4 : tie.Need-returns-4
-returns-4 c = sym (ap asPacket (ipv6-reads (word-then (sym (c .before .before .before .before .before .before .before .before .before .before .before .before .before .before .read-word .ensures) ∙ c .before .before .before .before .before .before .before .before .before .before .before .before .length .given .1) (word-then (sym (c .before .before .before .before .before .before .before .before .before .before .read-word2 .ensures) ∙ c .before .before .before .before .before .before .before .before .protocol .given .1) (quad-then (sym (c .before .before .before .before .before .before .read-quad .ensures) ∙ c .before .before .before .before .sa .given .1) (quad-cut (sym (c .before .before .read-quad2 .ensures) ∙ c .enum-told4 .given .1)))))))
+returns-4 c =
+    let at-sa = c .before .before .before .before in
+    let at-read-quad = at-sa .before .before in
+    let at-protocol = at-read-quad .before .before in
+    let at-read-word2 = at-protocol .before .before in
+    let at-length = at-read-word2 .before .before in
+    let at-read-word = at-length .before .before in
+    sym (ap asPacket (ipv6-reads (word-then (sym (at-read-word .read-word .ensures) ∙ at-length .length .given .1) (word-then (sym (at-read-word2 .read-word2 .ensures) ∙ at-protocol .protocol .given .1) (quad-then (sym (at-read-quad .read-quad .ensures) ∙ at-sa .sa .given .1) (quad-cut (sym (c .before .before .read-quad2 .ensures) ∙ c .enum-told4 .given .1)))))))
 
 -- src/lib.rt:147:40
 read-word-requires-3 : tie.Need-read-word-requires-3
@@ -84,7 +96,16 @@ enum-told-5 c = search needs
 
 -- src/lib.rt:148:9
 returns-5 : tie.Need-returns-5
-returns-5 c = sym (ap asPacket (ipv6-reads (word-then (sym (c .before .before .before .before .before .before .before .before .before .before .before .before .before .before .before .before .before .before .read-word .ensures) ∙ c .before .before .before .before .before .before .before .before .before .before .before .before .before .before .before .before .length .given .1) (word-then (sym (c .before .before .before .before .before .before .before .before .before .before .before .before .before .before .read-word2 .ensures) ∙ c .before .before .before .before .before .before .before .before .before .before .before .before .protocol .given .1) (quad-then (sym (c .before .before .before .before .before .before .before .before .before .before .read-quad .ensures) ∙ c .before .before .before .before .before .before .before .before .sa .given .1) (quad-then (sym (c .before .before .before .before .before .before .read-quad2 .ensures) ∙ c .before .before .before .before .da .given .1) (word-cut (sym (c .before .before .read-word3 .ensures) ∙ c .enum-told5 .given .1))))))))
+returns-5 c =
+    let at-da = c .before .before .before .before in
+    let at-read-quad2 = at-da .before .before in
+    let at-sa = at-read-quad2 .before .before in
+    let at-read-quad = at-sa .before .before in
+    let at-protocol = at-read-quad .before .before in
+    let at-read-word2 = at-protocol .before .before in
+    let at-length = at-read-word2 .before .before in
+    let at-read-word = at-length .before .before in
+    sym (ap asPacket (ipv6-reads (word-then (sym (at-read-word .read-word .ensures) ∙ at-length .length .given .1) (word-then (sym (at-read-word2 .read-word2 .ensures) ∙ at-protocol .protocol .given .1) (quad-then (sym (at-read-quad .read-quad .ensures) ∙ at-sa .sa .given .1) (quad-then (sym (at-read-quad2 .read-quad2 .ensures) ∙ at-da .da .given .1) (word-cut (sym (c .before .before .read-word3 .ensures) ∙ c .enum-told5 .given .1))))))))
 
 -- src/lib.rt:150:40
 read-word-requires-4 : tie.Need-read-word-requires-4
@@ -100,7 +121,18 @@ enum-told-6 c = search needs
 
 -- src/lib.rt:151:9
 returns-6 : tie.Need-returns-6
-returns-6 c = sym (ap asPacket (ipv6-reads (word-then (sym (c .before .before .before .before .before .before .before .before .before .before .before .before .before .before .before .before .before .before .before .before .before .before .read-word .ensures) ∙ c .before .before .before .before .before .before .before .before .before .before .before .before .before .before .before .before .before .before .before .before .length .given .1) (word-then (sym (c .before .before .before .before .before .before .before .before .before .before .before .before .before .before .before .before .before .before .read-word2 .ensures) ∙ c .before .before .before .before .before .before .before .before .before .before .before .before .before .before .before .before .protocol .given .1) (quad-then (sym (c .before .before .before .before .before .before .before .before .before .before .before .before .before .before .read-quad .ensures) ∙ c .before .before .before .before .before .before .before .before .before .before .before .before .sa .given .1) (quad-then (sym (c .before .before .before .before .before .before .before .before .before .before .read-quad2 .ensures) ∙ c .before .before .before .before .before .before .before .before .da .given .1) (word-then (sym (c .before .before .before .before .before .before .read-word3 .ensures) ∙ c .before .before .before .before .src-port .given .1) (word-cut (sym (c .before .before .read-word4 .ensures) ∙ c .enum-told6 .given .1)))))))))
+returns-6 c =
+    let at-src-port = c .before .before .before .before in
+    let at-read-word3 = at-src-port .before .before in
+    let at-da = at-read-word3 .before .before in
+    let at-read-quad2 = at-da .before .before in
+    let at-sa = at-read-quad2 .before .before in
+    let at-read-quad = at-sa .before .before in
+    let at-protocol = at-read-quad .before .before in
+    let at-read-word2 = at-protocol .before .before in
+    let at-length = at-read-word2 .before .before in
+    let at-read-word = at-length .before .before in
+    sym (ap asPacket (ipv6-reads (word-then (sym (at-read-word .read-word .ensures) ∙ at-length .length .given .1) (word-then (sym (at-read-word2 .read-word2 .ensures) ∙ at-protocol .protocol .given .1) (quad-then (sym (at-read-quad .read-quad .ensures) ∙ at-sa .sa .given .1) (quad-then (sym (at-read-quad2 .read-quad2 .ensures) ∙ at-da .da .given .1) (word-then (sym (at-read-word3 .read-word3 .ensures) ∙ at-src-port .src-port .given .1) (word-cut (sym (c .before .before .read-word4 .ensures) ∙ c .enum-told6 .given .1)))))))))
 
 -- src/lib.rt:153:41
 read-word-requires-5 : tie.Need-read-word-requires-5
@@ -116,7 +148,20 @@ enum-told-7 c = search needs
 
 -- src/lib.rt:154:9
 returns-7 : tie.Need-returns-7
-returns-7 c = sym (ap asPacket (ipv6-reads (word-then (sym (c .before .before .before .before .before .before .before .before .before .before .before .before .before .before .before .before .before .before .before .before .before .before .before .before .before .before .read-word .ensures) ∙ c .before .before .before .before .before .before .before .before .before .before .before .before .before .before .before .before .before .before .before .before .before .before .before .before .length .given .1) (word-then (sym (c .before .before .before .before .before .before .before .before .before .before .before .before .before .before .before .before .before .before .before .before .before .before .read-word2 .ensures) ∙ c .before .before .before .before .before .before .before .before .before .before .before .before .before .before .before .before .before .before .before .before .protocol .given .1) (quad-then (sym (c .before .before .before .before .before .before .before .before .before .before .before .before .before .before .before .before .before .before .read-quad .ensures) ∙ c .before .before .before .before .before .before .before .before .before .before .before .before .before .before .before .before .sa .given .1) (quad-then (sym (c .before .before .before .before .before .before .before .before .before .before .before .before .before .before .read-quad2 .ensures) ∙ c .before .before .before .before .before .before .before .before .before .before .before .before .da .given .1) (word-then (sym (c .before .before .before .before .before .before .before .before .before .before .read-word3 .ensures) ∙ c .before .before .before .before .before .before .before .before .src-port .given .1) (word-then (sym (c .before .before .before .before .before .before .read-word4 .ensures) ∙ c .before .before .before .before .dst-port .given .1) (word-cut (sym (c .before .before .read-word5 .ensures) ∙ c .enum-told7 .given .1))))))))))
+returns-7 c =
+    let at-dst-port = c .before .before .before .before in
+    let at-read-word4 = at-dst-port .before .before in
+    let at-src-port = at-read-word4 .before .before in
+    let at-read-word3 = at-src-port .before .before in
+    let at-da = at-read-word3 .before .before in
+    let at-read-quad2 = at-da .before .before in
+    let at-sa = at-read-quad2 .before .before in
+    let at-read-quad = at-sa .before .before in
+    let at-protocol = at-read-quad .before .before in
+    let at-read-word2 = at-protocol .before .before in
+    let at-length = at-read-word2 .before .before in
+    let at-read-word = at-length .before .before in
+    sym (ap asPacket (ipv6-reads (word-then (sym (at-read-word .read-word .ensures) ∙ at-length .length .given .1) (word-then (sym (at-read-word2 .read-word2 .ensures) ∙ at-protocol .protocol .given .1) (quad-then (sym (at-read-quad .read-quad .ensures) ∙ at-sa .sa .given .1) (quad-then (sym (at-read-quad2 .read-quad2 .ensures) ∙ at-da .da .given .1) (word-then (sym (at-read-word3 .read-word3 .ensures) ∙ at-src-port .src-port .given .1) (word-then (sym (at-read-word4 .read-word4 .ensures) ∙ at-dst-port .dst-port .given .1) (word-cut (sym (c .before .before .read-word5 .ensures) ∙ c .enum-told7 .given .1))))))))))
 
 -- src/lib.rt:156:42
 read-word-requires-6 : tie.Need-read-word-requires-6
@@ -132,7 +177,22 @@ enum-told-8 c = search needs
 
 -- src/lib.rt:157:9
 returns-8 : tie.Need-returns-8
-returns-8 c = sym (ap asPacket (ipv6-reads (word-then (sym (c .before .before .before .before .before .before .before .before .before .before .before .before .before .before .before .before .before .before .before .before .before .before .before .before .before .before .before .before .before .before .read-word .ensures) ∙ c .before .before .before .before .before .before .before .before .before .before .before .before .before .before .before .before .before .before .before .before .before .before .before .before .before .before .before .before .length .given .1) (word-then (sym (c .before .before .before .before .before .before .before .before .before .before .before .before .before .before .before .before .before .before .before .before .before .before .before .before .before .before .read-word2 .ensures) ∙ c .before .before .before .before .before .before .before .before .before .before .before .before .before .before .before .before .before .before .before .before .before .before .before .before .protocol .given .1) (quad-then (sym (c .before .before .before .before .before .before .before .before .before .before .before .before .before .before .before .before .before .before .before .before .before .before .read-quad .ensures) ∙ c .before .before .before .before .before .before .before .before .before .before .before .before .before .before .before .before .before .before .before .before .sa .given .1) (quad-then (sym (c .before .before .before .before .before .before .before .before .before .before .before .before .before .before .before .before .before .before .read-quad2 .ensures) ∙ c .before .before .before .before .before .before .before .before .before .before .before .before .before .before .before .before .da .given .1) (word-then (sym (c .before .before .before .before .before .before .before .before .before .before .before .before .before .before .read-word3 .ensures) ∙ c .before .before .before .before .before .before .before .before .before .before .before .before .src-port .given .1) (word-then (sym (c .before .before .before .before .before .before .before .before .before .before .read-word4 .ensures) ∙ c .before .before .before .before .before .before .before .before .dst-port .given .1) (word-then (sym (c .before .before .before .before .before .before .read-word5 .ensures) ∙ c .before .before .before .before .tcp-flags .given .1) (word-cut (sym (c .before .before .read-word6 .ensures) ∙ c .enum-told8 .given .1)))))))))))
+returns-8 c =
+    let at-tcp-flags = c .before .before .before .before in
+    let at-read-word5 = at-tcp-flags .before .before in
+    let at-dst-port = at-read-word5 .before .before in
+    let at-read-word4 = at-dst-port .before .before in
+    let at-src-port = at-read-word4 .before .before in
+    let at-read-word3 = at-src-port .before .before in
+    let at-da = at-read-word3 .before .before in
+    let at-read-quad2 = at-da .before .before in
+    let at-sa = at-read-quad2 .before .before in
+    let at-read-quad = at-sa .before .before in
+    let at-protocol = at-read-quad .before .before in
+    let at-read-word2 = at-protocol .before .before in
+    let at-length = at-read-word2 .before .before in
+    let at-read-word = at-length .before .before in
+    sym (ap asPacket (ipv6-reads (word-then (sym (at-read-word .read-word .ensures) ∙ at-length .length .given .1) (word-then (sym (at-read-word2 .read-word2 .ensures) ∙ at-protocol .protocol .given .1) (quad-then (sym (at-read-quad .read-quad .ensures) ∙ at-sa .sa .given .1) (quad-then (sym (at-read-quad2 .read-quad2 .ensures) ∙ at-da .da .given .1) (word-then (sym (at-read-word3 .read-word3 .ensures) ∙ at-src-port .src-port .given .1) (word-then (sym (at-read-word4 .read-word4 .ensures) ∙ at-dst-port .dst-port .given .1) (word-then (sym (at-read-word5 .read-word5 .ensures) ∙ at-tcp-flags .tcp-flags .given .1) (word-cut (sym (c .before .before .read-word6 .ensures) ∙ c .enum-told8 .given .1)))))))))))
 
 -- src/lib.rt:159:9
 quad-requires : tie.Need-quad-requires

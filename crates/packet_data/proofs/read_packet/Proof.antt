@@ -33,10 +33,16 @@ read-ipv6-requires : tie.Need-read-ipv6-requires
 read-ipv6-requires c κs = search needs
 
 returns-4 : tie.Need-returns-4
-returns-4 c = c .read-ipv6 .ensures ∙ sym (ap asPacket (packet-ipv6 _ _ _ _ (sym (c .before .before .before .before .before .before .before .read-word .ensures) ∙ c .before .before .before .before .before .kind .given .1) (c .before .if3 .taken)))
+returns-4 c =
+    let at-kind = c .before .before .before .before .before in
+    let at-read-word = at-kind .before .before in
+    c .read-ipv6 .ensures ∙ sym (ap asPacket (packet-ipv6 _ _ _ _ (sym (at-read-word .read-word .ensures) ∙ at-kind .kind .given .1) (c .before .if3 .taken)))
 
 returns-5 : tie.Need-returns-5
-returns-5 c = sym (ap asPacket (packet-other _ _ _ _ (sym (c .before .before .before .before .before .before .read-word .ensures) ∙ c .before .before .before .before .kind .given .1) (c .before .before .if1 .left) (c .before .if2 .left) (c .if3 .left)))
+returns-5 c =
+    let at-kind = c .before .before .before .before in
+    let at-read-word = at-kind .before .before in
+    sym (ap asPacket (packet-other _ _ _ _ (sym (at-read-word .read-word .ensures) ∙ at-kind .kind .given .1) (c .before .before .if1 .left) (c .before .if2 .left) (c .if3 .left)))
 
 pub read-packet-spec : {M : Type 1} → statement M
 read-packet-spec =

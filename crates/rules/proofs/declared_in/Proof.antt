@@ -37,7 +37,10 @@ shared-slice-read-t12 c = search needs
 
 -- src/lib.rt:188:1
 returns : tie.Need-returns
-returns c = declared-read (now (c .before .before .before .before .before .args .s)) (c .before .before .before .before .before .args .at) (c .before .before .number-of .result) (c .before .before .number-of .ensures)
+returns c =
+    let at-number-of = c .before .before in
+    let entry = at-number-of .before .before .before in
+    declared-read (now (entry .args .s)) (entry .args .at) (at-number-of .number-of .result) (at-number-of .number-of .ensures)
 
 pub declared-in-spec : {M : Type 1} → statement M
 declared-in-spec =

@@ -17,7 +17,9 @@ no-record-requires c κs = search needs
 
 -- src/lib.rt:204:9
 returns : tie.Need-returns
-returns c = c .no-record .ensures ∙ no-zeroth (now (c .before .before .before .args .s)) (c .before .before .before .args .i) (c .before .if1 .taken)
+returns c =
+    let entry = c .before .before .before in
+    c .no-record .ensures ∙ no-zeroth (now (entry .args .s)) (entry .args .i) (c .before .if1 .taken)
 
 -- src/lib.rt:207:9
 no-record-requires-2 : tie.Need-no-record-requires-2
@@ -25,7 +27,9 @@ no-record-requires-2 c κs = search needs
 
 -- src/lib.rt:207:9
 returns-2 : tie.Need-returns-2
-returns-2 c = c .no-record2 .ensures ∙ none-behind (now (c .before .before .before .before .args .s)) (c .before .before .before .before .args .i) (c .before .before .if1 .left) (c .before .if2 .taken)
+returns-2 c =
+    let entry = c .before .before .before .before in
+    c .no-record2 .ensures ∙ none-behind (now (entry .args .s)) (entry .args .i) (c .before .before .if1 .left) (c .before .if2 .taken)
 
 -- src/lib.rt:209:14
 mul-at : tie.Need-mul-at
@@ -57,7 +61,12 @@ declared-in-requires c κs = search needs
 
 -- src/lib.rt:200:1
 returns-3 : tie.Need-returns-3
-returns-3 c = record-joined (now (c .before .before .before .before .before .before .before .before .args .s)) (c .before .before .before .before .before .before .before .before .args .i) (c .before .before .before .before .before .before .if1 .left) (c .before .before .before .before .before .if2 .left) (record { mark = c .before .before .pair-of .result; rule = c .before .rule-in .result; declared = c .declared-in .result }) (c .before .before .pair-of .ensures ∙ mark-read (now (c .before .before .before .before .before .before .before .before .args .s)) _) (c .before .rule-in .ensures) (c .declared-in .ensures)
+returns-3 c =
+    let at-pair-of = c .before .before in
+    let at-if2 = at-pair-of .before .before .before in
+    let at-if1 = at-if2 .before in
+    let entry = at-if1 .before .before in
+    record-joined (now (entry .args .s)) (entry .args .i) (at-if1 .if1 .left) (at-if2 .if2 .left) (record { mark = at-pair-of .pair-of .result; rule = c .before .rule-in .result; declared = c .declared-in .result }) (at-pair-of .pair-of .ensures ∙ mark-read (now (entry .args .s)) _) (c .before .rule-in .ensures) (c .declared-in .ensures)
 
 pub record-at-spec : {M : Type 1} → statement M
 record-at-spec =

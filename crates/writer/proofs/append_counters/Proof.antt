@@ -29,7 +29,13 @@ write-counters-requires : tie.Need-write-counters-requires
 write-counters-requires c κs = search needs
 
 raise-count-requires : tie.Need-raise-count-requires
-raise-count-requires c κs = room-fitting _ _ _ _ (so-far _ _ _ _ _ (λ i. c .before .before .before .before .before .before .before .before .before .before .before .slice-known .given i .fits) (sym (c .before .before .before .before .before .before .before .before .check-so-far .ensures) ∙ c .before .before .before .before .before .before .at .given .1)) (countersAllowed (c .before .before .before .before .before .before .before .before .before .before .before .before .args .version) (c .before .before .before .before .before .before .before .before .before .before .before .before .args .numbers .now)) (encode sample-type (countersValue (c .before .before .before .before .before .before .before .before .before .before .before .before .args .sequence-number) (c .before .before .before .before .before .before .before .before .before .before .before .before .args .source-id) (c .before .before .before .before .before .before .before .before .before .before .before .before .args .sampling-interval) (c .before .before .before .before .before .before .before .before .before .before .before .before .args .version) (c .before .before .before .before .before .before .before .before .before .before .before .before .args .numbers .now))) _ _ (c .before .before .before .write-counters .ensures)
+raise-count-requires c κs =
+    let at-write-counters = c .before .before .before in
+    let at-at = at-write-counters .before .before .before in
+    let at-check-so-far = at-at .before .before in
+    let at-slice-known = at-check-so-far .before .before .before in
+    let entry = at-slice-known .before in
+    room-fitting _ _ _ _ (so-far _ _ _ _ _ (λ i. at-slice-known .slice-known .given i .fits) (sym (at-check-so-far .check-so-far .ensures) ∙ at-at .at .given .1)) (countersAllowed (entry .args .version) (entry .args .numbers .now)) (encode sample-type (countersValue (entry .args .sequence-number) (entry .args .source-id) (entry .args .sampling-interval) (entry .args .version) (entry .args .numbers .now))) _ _ (at-write-counters .write-counters .ensures)
 
 same-length : tie.Need-same-length
 same-length c = search needs
@@ -41,7 +47,12 @@ same-length-2 : tie.Need-same-length-2
 same-length-2 c = search needs
 
 returns-2 : tie.Need-returns-2
-returns-2 c = room-appended _ _ _ _ (so-far _ _ _ _ _ (λ i. c .before .before .before .before .before .before .before .before .before .before .before .before .before .before .slice-known .given i .fits) (sym (c .before .before .before .before .before .before .before .before .before .before .before .check-so-far .ensures) ∙ c .before .before .before .before .before .before .before .before .before .at .given .1)) _ _ _ _ _ _ (sym (c .before .before .before .before .before .before .before .before .before .at .given .1) ∙ c .before .before .before .before .before .before .before .before .before .before .before .check-so-far .ensures) (c .before .before .before .before .before .before .write-counters .ensures) (c .before .before .raise-count .ensures)
+returns-2 c =
+    let at-write-counters = c .before .before .before .before .before .before in
+    let at-at = at-write-counters .before .before .before in
+    let at-check-so-far = at-at .before .before in
+    let at-slice-known = at-check-so-far .before .before .before in
+    room-appended _ _ _ _ (so-far _ _ _ _ _ (λ i. at-slice-known .slice-known .given i .fits) (sym (at-check-so-far .check-so-far .ensures) ∙ at-at .at .given .1)) _ _ _ _ _ _ (sym (at-at .at .given .1) ∙ at-check-so-far .check-so-far .ensures) (at-write-counters .write-counters .ensures) (c .before .before .raise-count .ensures)
 
 pub append-counters-spec : {M : Type 1} → statement M
 append-counters-spec =

@@ -16,7 +16,10 @@ returns : tie.Need-returns
 returns c = so-far-long _ _ _ (sym (c .before .before .limit-allowed .ensures) ∙ c .before .if1 .taken) (c .if2 .taken)
 
 slice-aggregate-read : tie.Need-slice-aggregate-read
-slice-aggregate-read c = let h : c .before .before .before .before .before .args .limit ≤ length (c .before .before .before .before .before .args .d .now) = limit-allowed _ _ (sym (c .before .before .before .limit-allowed .ensures) ∙ c .before .before .if1 .taken) .inside in rw length-take (omega arith)
+slice-aggregate-read c =
+    let at-limit-allowed = c .before .before .before in
+    let entry = at-limit-allowed .before .before in
+    let h : entry .args .limit ≤ length (entry .args .d .now) = limit-allowed _ _ (sym (at-limit-allowed .limit-allowed .ensures) ∙ c .before .before .if1 .taken) .inside in rw length-take (omega arith)
 
 read-requires : tie.Need-read-requires
 read-requires c κs = search needs
@@ -28,16 +31,31 @@ enum-told : tie.Need-enum-told
 enum-told c = search needs
 
 returns-2 : tie.Need-returns-2
-returns-2 c = so-far-refused _ _ _ (sym (c .before .before .before .before .before .before .limit-allowed .ensures) ∙ c .before .before .before .before .before .if1 .taken) (c .before .before .before .before .if2 .left) _ _ (sym (c .before .before .read .ensures) ∙ c .enum-told .given .1)
+returns-2 c =
+    let at-if2 = c .before .before .before .before in
+    let at-if1 = at-if2 .before in
+    let at-limit-allowed = at-if1 .before in
+    so-far-refused _ _ _ (sym (at-limit-allowed .limit-allowed .ensures) ∙ at-if1 .if1 .taken) (at-if2 .if2 .left) _ _ (sym (c .before .before .read .ensures) ∙ c .enum-told .given .1)
 
 sub-t14 : tie.Need-sub-t14
 sub-t14 c = head-at _ _ (sym (c .before .before .before .before .before .read .ensures) ∙ c .before .before .before .head .given .1)
 
 add-t15 : tie.Need-add-t15
-add-t15 c = let f = head-few (take (c .before .before .before .before .before .before .before .before .before .before .before .before .args .length) (c .before .before .before .before .before .before .before .before .before .before .before .before .args .d .now)) (octets-take (c .before .before .before .before .before .before .before .before .before .before .before .before .args .length) (c .before .before .before .before .before .before .before .before .before .before .before .before .args .d .now) (λ i. c .before .before .before .before .before .before .before .before .before .before .before .shared-slice-known .given i .fits)) _ (sym (c .before .before .before .before .before .before .read .ensures) ∙ c .before .before .before .before .head .given .1) in omega arith
+add-t15 c =
+    let at-head = c .before .before .before .before in
+    let at-read = at-head .before .before in
+    let at-shared-slice-known = at-read .before .before .before .before .before in
+    let entry = at-shared-slice-known .before in
+    let f = head-few (take (entry .args .length) (entry .args .d .now)) (octets-take (entry .args .length) (entry .args .d .now) (λ i. at-shared-slice-known .shared-slice-known .given i .fits)) _ (sym (at-read .read .ensures) ∙ at-head .head .given .1) in omega arith
 
 returns-3 : tie.Need-returns-3
-returns-3 c = so-far-found _ _ _ (sym (c .before .before .before .before .before .before .before .before .before .before .limit-allowed .ensures) ∙ c .before .before .before .before .before .before .before .before .before .if1 .taken) (c .before .before .before .before .before .before .before .before .if2 .left) _ (sym (c .before .before .before .before .before .before .read .ensures) ∙ c .before .before .before .before .head .given .1)
+returns-3 c =
+    let at-head = c .before .before .before .before in
+    let at-read = at-head .before .before in
+    let at-if2 = at-read .before .before in
+    let at-if1 = at-if2 .before in
+    let at-limit-allowed = at-if1 .before in
+    so-far-found _ _ _ (sym (at-limit-allowed .limit-allowed .ensures) ∙ at-if1 .if1 .taken) (at-if2 .if2 .left) _ (sym (at-read .read .ensures) ∙ at-head .head .given .1)
 
 returns-4 : tie.Need-returns-4
 returns-4 c = so-far-limit _ _ _ (sym (c .before .limit-allowed .ensures) ∙ c .if1 .left)

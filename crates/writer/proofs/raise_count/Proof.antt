@@ -11,7 +11,10 @@ write-word-requires : tie.Need-write-word-requires
 write-word-requires c κs = search needs
 
 add-t11 : tie.Need-add-t11
-add-t11 c = let h = c .before .before .before .before .before .before .before .before .pre .end _ (c .before .before .before .before .before .answer .given .1) in omega arith
+add-t11 c =
+    let at-answer = c .before .before .before .before .before in
+    let at-pre = at-answer .before .before .before in
+    let h = at-pre .pre .end _ (at-answer .answer .given .1) in omega arith
 
 enum-told : tie.Need-enum-told
 enum-told c = search needs
@@ -29,7 +32,10 @@ same-length : tie.Need-same-length
 same-length c = search needs
 
 returns : tie.Need-returns
-returns c = counted-done _ _ _ _ _ _ _ _ (c .before .before .before .before .before .answer .given .1) (c .before .before .before .before .before .before .before .before .pre) (c .before .before .write-word .ensures)
+returns c =
+    let at-answer = c .before .before .before .before .before in
+    let at-pre = at-answer .before .before .before in
+    counted-done _ _ _ _ _ _ _ _ (at-answer .answer .given .1) (at-pre .pre) (c .before .before .write-word .ensures)
 
 returns-2 : tie.Need-returns-2
 returns-2 c = counted-limit _ _ _ _ _ (c .enum-told .given .1)

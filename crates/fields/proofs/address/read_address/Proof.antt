@@ -35,11 +35,20 @@ enum-told-2 c = search needs
 
 -- src/address.rt:37:13
 returns-2 : tie.Need-returns-2
-returns-2 c = sym (ap asAddress (address-v4-cut _ _ _ _ _ (sym (c .before .before .before .before .before .before .before .read-word .ensures) ∙ c .before .before .before .before .before .kind .given .1) (c .before .before .before .if1 .taken) (sym (c .before .before .read-word2 .ensures) ∙ c .enum-told2 .given .1)))
+returns-2 c =
+    let at-if1 = c .before .before .before in
+    let at-kind = at-if1 .before .before in
+    let at-read-word = at-kind .before .before in
+    sym (ap asAddress (address-v4-cut _ _ _ _ _ (sym (at-read-word .read-word .ensures) ∙ at-kind .kind .given .1) (at-if1 .if1 .taken) (sym (c .before .before .read-word2 .ensures) ∙ c .enum-told2 .given .1)))
 
 -- src/address.rt:39:9
 returns-3 : tie.Need-returns-3
-returns-3 c = sym (ap asAddress (address-v4 _ _ _ _ _ _ (sym (c .before .before .before .before .before .before .before .before .read-word .ensures) ∙ c .before .before .before .before .before .before .kind .given .1) (c .before .before .before .before .if1 .taken) (sym (c .before .before .before .read-word2 .ensures) ∙ c .before .a .given .1)))
+returns-3 c =
+    let at-read-word2 = c .before .before .before in
+    let at-if1 = at-read-word2 .before in
+    let at-kind = at-if1 .before .before in
+    let at-read-word = at-kind .before .before in
+    sym (ap asAddress (address-v4 _ _ _ _ _ _ (sym (at-read-word .read-word .ensures) ∙ at-kind .kind .given .1) (at-if1 .if1 .taken) (sym (at-read-word2 .read-word2 .ensures) ∙ c .before .a .given .1)))
 
 -- src/address.rt:53:48
 read-quad-requires : tie.Need-read-quad-requires
@@ -55,11 +64,20 @@ enum-told-3 c = search needs
 
 -- src/address.rt:54:13
 returns-4 : tie.Need-returns-4
-returns-4 c = sym (ap asAddress (address-v6-cut _ _ _ _ _ (sym (c .before .before .before .before .before .before .before .before .read-word .ensures) ∙ c .before .before .before .before .before .before .kind .given .1) (c .before .before .before .if2 .taken) (sym (c .before .before .read-quad .ensures) ∙ c .enum-told3 .given .1)))
+returns-4 c =
+    let at-if2 = c .before .before .before in
+    let at-kind = at-if2 .before .before .before in
+    let at-read-word = at-kind .before .before in
+    sym (ap asAddress (address-v6-cut _ _ _ _ _ (sym (at-read-word .read-word .ensures) ∙ at-kind .kind .given .1) (at-if2 .if2 .taken) (sym (c .before .before .read-quad .ensures) ∙ c .enum-told3 .given .1)))
 
 -- src/address.rt:56:9
 returns-5 : tie.Need-returns-5
-returns-5 c = sym (ap asAddress (address-v6 _ _ _ _ _ _ _ _ _ (search needs) (search needs) (search needs) (search needs) (sym (c .before .before .before .before .before .before .before .before .before .read-word .ensures) ∙ c .before .before .before .before .before .before .before .kind .given .1) (c .before .before .before .before .if2 .taken) (sym (c .before .before .before .read-quad .ensures) ∙ c .before .a2 .given .1)))
+returns-5 c =
+    let at-read-quad = c .before .before .before in
+    let at-if2 = at-read-quad .before in
+    let at-kind = at-if2 .before .before .before in
+    let at-read-word = at-kind .before .before in
+    sym (ap asAddress (address-v6 _ _ _ _ _ _ _ _ _ (search needs) (search needs) (search needs) (search needs) (sym (at-read-word .read-word .ensures) ∙ at-kind .kind .given .1) (at-if2 .if2 .taken) (sym (at-read-quad .read-quad .ensures) ∙ c .before .a2 .given .1)))
 
 -- src/address.rt:29:1
 returns-6 : tie.Need-returns-6

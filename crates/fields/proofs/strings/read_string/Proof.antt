@@ -36,11 +36,19 @@ enum-known-why c = search needs
 
 -- src/strings.rt:42:1
 returns-2 : tie.Need-returns-2
-returns-2 c = sym (ap asString (text-found _ _ _ _ _ (sym (c .before .before .before .before .before .before .before .read-word .ensures) ∙ c .before .before .before .before .before .length .given .1) (sym (c .before .before .before .pass-octets .ensures) ∙ c .before .next .given .1)))
+returns-2 c =
+    let at-pass-octets = c .before .before .before in
+    let at-length = at-pass-octets .before .before in
+    let at-read-word = at-length .before .before in
+    sym (ap asString (text-found _ _ _ _ _ (sym (at-read-word .read-word .ensures) ∙ at-length .length .given .1) (sym (at-pass-octets .pass-octets .ensures) ∙ c .before .next .given .1)))
 
 -- src/strings.rt:42:1
 returns-3 : tie.Need-returns-3
-returns-3 c = sym (ap asString (text-refused _ _ _ _ _ _ (sym (c .before .before .before .before .before .before .before .read-word .ensures) ∙ c .before .before .before .before .before .length .given .1) (sym (c .before .before .before .pass-octets .ensures) ∙ c .before .why .given .1)))
+returns-3 c =
+    let at-pass-octets = c .before .before .before in
+    let at-length = at-pass-octets .before .before in
+    let at-read-word = at-length .before .before in
+    sym (ap asString (text-refused _ _ _ _ _ _ (sym (at-read-word .read-word .ensures) ∙ at-length .length .given .1) (sym (at-pass-octets .pass-octets .ensures) ∙ c .before .why .given .1)))
 
 pub read-string-spec : {M : Type 1} → statement M
 read-string-spec =

@@ -20,13 +20,20 @@ enum-told : tie.Need-enum-told
 enum-told c = search needs
 
 returns : tie.Need-returns
-returns c = refused-value _ _ _ (first-fails _ _ (ends-nowhere (entries (decode as-path-type (c .before .before .before .before .before .before .args .path .now)) (c .before .before .before .before .before .before .args .count) 0) (length (c .before .before .before .before .before .before .args .path .now)) _ _ (sym (c .before .before .pass-segments .ensures) ∙ c .enum-told .given .1)))
+returns c =
+    let entry = c .before .before .before .before .before .before in
+    refused-value _ _ _ (first-fails _ _ (ends-nowhere (entries (decode as-path-type (entry .args .path .now)) (entry .args .count) 0) (length (entry .args .path .now)) _ _ (sym (c .before .before .pass-segments .ensures) ∙ c .enum-told .given .1)))
 
 returns-2 : tie.Need-returns-2
-returns-2 c = refused-value _ _ _ (first-fails _ _ (ends-elsewhere (entries (decode as-path-type (c .before .before .before .before .before .before .before .before .args .path .now)) (c .before .before .before .before .before .before .before .before .args .count) 0) (length (c .before .before .before .before .before .before .before .before .args .path .now)) _ (sym (c .before .before .before .before .pass-segments .ensures) ∙ c .before .before .passed .given .1) (c .if1 .taken)))
+returns-2 c =
+    let at-pass-segments = c .before .before .before .before in
+    let entry = at-pass-segments .before .before .before .before in
+    refused-value _ _ _ (first-fails _ _ (ends-elsewhere (entries (decode as-path-type (entry .args .path .now)) (entry .args .count) 0) (length (entry .args .path .now)) _ (sym (at-pass-segments .pass-segments .ensures) ∙ c .before .before .passed .given .1) (c .if1 .taken)))
 
 returns-3 : tie.Need-returns-3
-returns-3 c = refused-value _ _ _ (second-fails (areEntries as-path-type (c .before .before .before .before .before .before .before .before .before .args .count) (c .before .before .before .before .before .before .before .before .before .args .path .now)) _ (too-many (c .before .before .before .before .before .before .before .before .before .args .communities .now) (c .if2 .taken)))
+returns-3 c =
+    let entry = c .before .before .before .before .before .before .before .before .before in
+    refused-value _ _ _ (second-fails (areEntries as-path-type (entry .args .count) (entry .args .path .now)) _ (too-many (entry .args .communities .now) (c .if2 .taken)))
 
 array-read-t18 : tie.Need-array-read-t18
 array-read-t18 c = search needs
@@ -59,7 +66,13 @@ same-length : tie.Need-same-length
 same-length c = search needs
 
 returns-4 : tie.Need-returns-4
-returns-4 c = let passed = sym (c .before .before .before .before .before .before .before .before .before .before .before .before .before .pass-segments .ensures) ∙ c .before .before .before .before .before .before .before .before .before .before .before .passed .given .1 in allowed-value _ _ _ _ _ _ (both-hold _ _ (ends-there (entries (decode as-path-type (c .before .before .before .before .before .before .before .before .before .before .before .before .before .before .before .before .before .args .path .now)) (c .before .before .before .before .before .before .before .before .before .before .before .before .before .before .before .before .before .args .count) 0) (length (c .before .before .before .before .before .before .before .before .before .before .before .before .before .before .before .before .before .args .path .now)) _ passed (c .before .before .before .before .before .before .before .before .before .if1 .left)) (not-too-many (c .before .before .before .before .before .before .before .before .before .before .before .before .before .before .before .before .before .args .communities .now) (c .before .before .before .before .before .before .before .before .if2 .left))) (gateway-octets (c .before .before .before .before .before .before .before .before .before .before .before .before .before .before .before .before .before .args .t2) (c .before .before .before .before .before .before .before .before .before .before .before .before .before .before .before .before .before .args .count) (c .before .before .before .before .before .before .before .before .before .before .before .before .before .before .before .before .before .args .path .now) (c .before .before .before .before .before .before .before .before .before .before .before .before .before .before .before .before .before .args .communities .now) (c .before .before .before .before .before .before .before .before .before .before .before .before .before .before .before .before .before .args .localpref) (search needs) (path-fours (c .before .before .before .before .before .before .before .before .before .before .before .before .before .before .before .before .before .args .path .now) (c .before .before .before .before .before .before .before .before .before .before .before .before .before .before .before .before .before .args .count) _ passed (c .before .before .before .before .before .before .before .before .before .if1 .left))) (c .before .before .write-parts .ensures)
+returns-4 c =
+    let at-if2 = c .before .before .before .before .before .before .before .before in
+    let at-if1 = at-if2 .before in
+    let at-passed = at-if1 .before .before in
+    let at-pass-segments = at-passed .before .before in
+    let entry = at-pass-segments .before .before .before .before in
+    let passed = sym (at-pass-segments .pass-segments .ensures) ∙ at-passed .passed .given .1 in allowed-value _ _ _ _ _ _ (both-hold _ _ (ends-there (entries (decode as-path-type (entry .args .path .now)) (entry .args .count) 0) (length (entry .args .path .now)) _ passed (at-if1 .if1 .left)) (not-too-many (entry .args .communities .now) (at-if2 .if2 .left))) (gateway-octets (entry .args .t2) (entry .args .count) (entry .args .path .now) (entry .args .communities .now) (entry .args .localpref) (search needs) (path-fours (entry .args .path .now) (entry .args .count) _ passed (at-if1 .if1 .left))) (c .before .before .write-parts .ensures)
 
 pub write-gateway-spec : {M : Type 1} → statement M
 write-gateway-spec =

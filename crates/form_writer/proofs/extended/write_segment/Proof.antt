@@ -12,7 +12,9 @@ returns-2 : tie.Need-returns-2
 returns-2 c = refused-value _ _ _ (first-fails _ _ (above-most _ _ (c .if2 .taken)))
 
 returns-3 : tie.Need-returns-3
-returns-3 c = refused-value _ _ _ (second-fails (oneTo 2 (c .before .before .before .before .before .args .kind)) _ (too-many (c .before .before .before .before .before .args .numbers .now) (c .if3 .taken)))
+returns-3 c =
+    let entry = c .before .before .before .before .before in
+    refused-value _ _ _ (second-fails (oneTo 2 (entry .args .kind)) _ (too-many (entry .args .numbers .now) (c .if3 .taken)))
 
 cast-t11 : tie.Need-cast-t11
 cast-t11 c = search needs
@@ -39,7 +41,12 @@ same-length : tie.Need-same-length
 same-length c = search needs
 
 returns-4 : tie.Need-returns-4
-returns-4 c = allowed-value _ _ _ _ _ _ (both-hold _ _ (from-one _ _ (c .before .before .before .before .before .before .before .before .before .before .if1 .left) (c .before .before .before .before .before .before .before .before .before .if2 .left)) (not-too-many (c .before .before .before .before .before .before .before .before .before .before .before .before .before .args .numbers .now) (c .before .before .before .before .before .before .before .before .if3 .left))) (segment-octets (c .before .before .before .before .before .before .before .before .before .before .before .before .before .args .kind) (c .before .before .before .before .before .before .before .before .before .before .before .before .before .args .numbers .now)) (c .before .before .write-parts .ensures)
+returns-4 c =
+    let at-if3 = c .before .before .before .before .before .before .before .before in
+    let at-if2 = at-if3 .before in
+    let at-if1 = at-if2 .before in
+    let entry = at-if1 .before .before .before in
+    allowed-value _ _ _ _ _ _ (both-hold _ _ (from-one _ _ (at-if1 .if1 .left) (at-if2 .if2 .left)) (not-too-many (entry .args .numbers .now) (at-if3 .if3 .left))) (segment-octets (entry .args .kind) (entry .args .numbers .now)) (c .before .before .write-parts .ensures)
 
 pub write-segment-spec : {M : Type 1} → statement M
 write-segment-spec =

@@ -12,7 +12,9 @@ returns-2 : tie.Need-returns-2
 returns-2 c = refused-value _ _ _ (first-fails _ _ (above-most _ _ (c .if2 .taken)))
 
 returns-3 : tie.Need-returns-3
-returns-3 c = refused-value _ _ _ (second-fails (oneTo 2 (c .before .before .before .before .before .args .direction)) _ (too-many (c .before .before .before .before .before .args .url .now) (c .if3 .taken)))
+returns-3 c =
+    let entry = c .before .before .before .before .before in
+    refused-value _ _ _ (second-fails (oneTo 2 (entry .args .direction)) _ (too-many (entry .args .url .now) (c .if3 .taken)))
 
 cast-t10 : tie.Need-cast-t10
 cast-t10 c = search needs
@@ -36,7 +38,12 @@ same-length : tie.Need-same-length
 same-length c = search needs
 
 returns-4 : tie.Need-returns-4
-returns-4 c = allowed-value _ _ _ _ _ _ (both-hold _ _ (from-one _ _ (c .before .before .before .before .before .before .before .before .before .if1 .left) (c .before .before .before .before .before .before .before .before .if2 .left)) (not-too-many (c .before .before .before .before .before .before .before .before .before .before .before .before .args .url .now) (c .before .before .before .before .before .before .before .if3 .left))) (url-octets (c .before .before .before .before .before .before .before .before .before .before .before .before .args .direction) (c .before .before .before .before .before .before .before .before .before .before .before .before .args .url .now)) (c .before .before .write-parts .ensures)
+returns-4 c =
+    let at-if3 = c .before .before .before .before .before .before .before in
+    let at-if2 = at-if3 .before in
+    let at-if1 = at-if2 .before in
+    let entry = at-if1 .before .before .before in
+    allowed-value _ _ _ _ _ _ (both-hold _ _ (from-one _ _ (at-if1 .if1 .left) (at-if2 .if2 .left)) (not-too-many (entry .args .url .now) (at-if3 .if3 .left))) (url-octets (entry .args .direction) (entry .args .url .now)) (c .before .before .write-parts .ensures)
 
 pub write-url-spec : {M : Type 1} → statement M
 write-url-spec =

@@ -9,7 +9,9 @@ returns : tie.Need-returns
 returns c = refused-value _ _ _ (first-fails _ _ (too-many (c .before .before .before .before .args .src-user .now) (c .if1 .taken)))
 
 returns-2 : tie.Need-returns-2
-returns-2 c = refused-value _ _ _ (second-fails (countable (c .before .before .before .before .before .args .src-user .now)) _ (too-many (c .before .before .before .before .before .args .dst-user .now) (c .if2 .taken)))
+returns-2 c =
+    let entry = c .before .before .before .before .before in
+    refused-value _ _ _ (second-fails (countable (entry .args .src-user .now)) _ (too-many (entry .args .dst-user .now) (c .if2 .taken)))
 
 cast-t10 : tie.Need-cast-t10
 cast-t10 c = search needs
@@ -36,7 +38,11 @@ same-length : tie.Need-same-length
 same-length c = search needs
 
 returns-3 : tie.Need-returns-3
-returns-3 c = allowed-value _ _ _ _ _ _ (both-hold _ _ (not-too-many (c .before .before .before .before .before .before .before .before .before .before .before .before .args .src-user .now) (c .before .before .before .before .before .before .before .before .if1 .left)) (not-too-many (c .before .before .before .before .before .before .before .before .before .before .before .before .args .dst-user .now) (c .before .before .before .before .before .before .before .if2 .left))) (user-octets (c .before .before .before .before .before .before .before .before .before .before .before .before .args .src-user .now) (c .before .before .before .before .before .before .before .before .before .before .before .before .args .dst-user .now)) (c .before .before .write-parts .ensures)
+returns-3 c =
+    let at-if2 = c .before .before .before .before .before .before .before in
+    let at-if1 = at-if2 .before in
+    let entry = at-if1 .before .before .before .before in
+    allowed-value _ _ _ _ _ _ (both-hold _ _ (not-too-many (entry .args .src-user .now) (at-if1 .if1 .left)) (not-too-many (entry .args .dst-user .now) (at-if2 .if2 .left))) (user-octets (entry .args .src-user .now) (entry .args .dst-user .now)) (c .before .before .write-parts .ensures)
 
 pub write-user-spec : {M : Type 1} → statement M
 write-user-spec =

@@ -22,7 +22,10 @@ same-length : tie.Need-same-length
 same-length c = search needs
 
 returns : tie.Need-returns
-returns c = string-put _ _ _ _ _ _ _ (c .before .before .before .before .before .before .before .before .before .before .before .pre) (c .before .before .before .before .before .before .write-padded .ensures) (c .before .before .put-words .ensures)
+returns c =
+    let at-write-padded = c .before .before .before .before .before .before in
+    let at-pre = at-write-padded .before .before .before .before .before in
+    string-put _ _ _ _ _ _ _ (at-pre .pre) (at-write-padded .write-padded .ensures) (c .before .before .put-words .ensures)
 
 pub put-string-spec : {M : Type 1} → statement M
 put-string-spec =

@@ -43,7 +43,11 @@ loop-less c = search needs
 
 -- src/datagram.rt:77:5
 loop-again : tie.Need-loop-again Inv-loop μ-loop
-loop-again c = sym (passed-step _ _ _ _ (c .before .before .before .before .loop-test .taken) (sym (c .before .before .before .pass-sample .ensures) ∙ c .before .entry .given .1)) ∙ c .before .before .before .before .before .loop .inv
+loop-again c =
+    let at-pass-sample = c .before .before .before in
+    let at-loop-test = at-pass-sample .before in
+    let at-loop = at-loop-test .before in
+    sym (passed-step _ _ _ _ (at-loop-test .loop-test .taken) (sym (at-pass-sample .pass-sample .ensures) ∙ c .before .entry .given .1)) ∙ at-loop .loop .inv
 
 -- src/datagram.rt:72:1
 returns-2 : tie.Need-returns-2 Inv-loop μ-loop

@@ -34,15 +34,27 @@ enum-known-end c = search needs
 
 -- src/datagram.rt:100:17
 returns-2 : tie.Need-returns-2
-returns-2 c = sym (answer-trailing _ _ (sym (c .before .before .before .before .before .before .before .before .read-head .ensures) ∙ c .before .before .before .before .before .before .start .given .1) _ (sym (c .before .before .before .before .pass-samples .ensures) ∙ c .before .before .end .given .1) (c .if1 .taken))
+returns-2 c =
+    let at-pass-samples = c .before .before .before .before in
+    let at-start = at-pass-samples .before .before in
+    let at-read-head = at-start .before .before in
+    sym (answer-trailing _ _ (sym (at-read-head .read-head .ensures) ∙ at-start .start .given .1) _ (sym (at-pass-samples .pass-samples .ensures) ∙ c .before .before .end .given .1) (c .if1 .taken))
 
 -- src/datagram.rt:89:1
 returns-3 : tie.Need-returns-3
-returns-3 c = sym (answer-samples-refused _ _ (sym (c .before .before .before .before .before .before .before .read-head .ensures) ∙ c .before .before .before .before .before .start .given .1) _ _ (sym (c .before .before .before .pass-samples .ensures) ∙ c .before .why .given .1))
+returns-3 c =
+    let at-pass-samples = c .before .before .before in
+    let at-start = at-pass-samples .before .before in
+    let at-read-head = at-start .before .before in
+    sym (answer-samples-refused _ _ (sym (at-read-head .read-head .ensures) ∙ at-start .start .given .1) _ _ (sym (at-pass-samples .pass-samples .ensures) ∙ c .before .why .given .1))
 
 -- src/datagram.rt:89:1
 returns-4 : tie.Need-returns-4
-returns-4 c = sym (answer-whole _ _ (sym (c .before .before .before .before .before .before .before .before .read-head .ensures) ∙ c .before .before .before .before .before .before .start .given .1) _ (sym (c .before .before .before .before .pass-samples .ensures) ∙ c .before .before .end .given .1) (c .if1 .left))
+returns-4 c =
+    let at-pass-samples = c .before .before .before .before in
+    let at-start = at-pass-samples .before .before in
+    let at-read-head = at-start .before .before in
+    sym (answer-whole _ _ (sym (at-read-head .read-head .ensures) ∙ at-start .start .given .1) _ (sym (at-pass-samples .pass-samples .ensures) ∙ c .before .before .end .given .1) (c .if1 .left))
 
 pub read-spec : {M : Type 1} → statement M
 read-spec =

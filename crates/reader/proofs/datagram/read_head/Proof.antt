@@ -55,7 +55,14 @@ enum-told-2 c = search needs
 
 -- src/datagram.rt:48:17
 returns-4 : tie.Need-returns-4
-returns-4 c = sym (ap asHead (head-cut-1 _ (c .before .before .before .before .before .before .before .before .before .before .before .before .if1 .left) _ _ (sym (c .before .before .before .before .before .before .before .before .before .before .before .read-word .ensures) ∙ c .before .before .before .before .before .before .before .before .before .version .given .1) (c .before .before .before .before .before .before .before .if2 .left) _ _ (sym (c .before .before .before .before .before .before .read-address .ensures) ∙ c .before .before .before .before .agent .given .1) _ (sym (c .before .before .read-word2 .ensures) ∙ c .enum-told2 .given .1)))
+returns-4 c =
+    let at-agent = c .before .before .before .before in
+    let at-read-address = at-agent .before .before in
+    let at-if2 = at-read-address .before in
+    let at-version = at-if2 .before .before in
+    let at-read-word = at-version .before .before in
+    let at-if1 = at-read-word .before in
+    sym (ap asHead (head-cut-1 _ (at-if1 .if1 .left) _ _ (sym (at-read-word .read-word .ensures) ∙ at-version .version .given .1) (at-if2 .if2 .left) _ _ (sym (at-read-address .read-address .ensures) ∙ at-agent .agent .given .1) _ (sym (c .before .before .read-word2 .ensures) ∙ c .enum-told2 .given .1)))
 
 -- src/datagram.rt:50:46
 read-word-requires-3 : tie.Need-read-word-requires-3
@@ -71,7 +78,16 @@ enum-told-3 c = search needs
 
 -- src/datagram.rt:51:17
 returns-5 : tie.Need-returns-5
-returns-5 c = sym (ap asHead (head-cut-2 _ (c .before .before .before .before .before .before .before .before .before .before .before .before .before .before .before .before .if1 .left) _ _ (sym (c .before .before .before .before .before .before .before .before .before .before .before .before .before .before .before .read-word .ensures) ∙ c .before .before .before .before .before .before .before .before .before .before .before .before .before .version .given .1) (c .before .before .before .before .before .before .before .before .before .before .before .if2 .left) _ _ (sym (c .before .before .before .before .before .before .before .before .before .before .read-address .ensures) ∙ c .before .before .before .before .before .before .before .before .agent .given .1) _ _ (sym (c .before .before .before .before .before .before .read-word2 .ensures) ∙ c .before .before .before .before .sequence-number .given .1) _ (sym (c .before .before .read-word3 .ensures) ∙ c .enum-told3 .given .1)))
+returns-5 c =
+    let at-sequence-number = c .before .before .before .before in
+    let at-read-word2 = at-sequence-number .before .before in
+    let at-agent = at-read-word2 .before .before in
+    let at-read-address = at-agent .before .before in
+    let at-if2 = at-read-address .before in
+    let at-version = at-if2 .before .before in
+    let at-read-word = at-version .before .before in
+    let at-if1 = at-read-word .before in
+    sym (ap asHead (head-cut-2 _ (at-if1 .if1 .left) _ _ (sym (at-read-word .read-word .ensures) ∙ at-version .version .given .1) (at-if2 .if2 .left) _ _ (sym (at-read-address .read-address .ensures) ∙ at-agent .agent .given .1) _ _ (sym (at-read-word2 .read-word2 .ensures) ∙ at-sequence-number .sequence-number .given .1) _ (sym (c .before .before .read-word3 .ensures) ∙ c .enum-told3 .given .1)))
 
 -- src/datagram.rt:53:48
 read-word-requires-4 : tie.Need-read-word-requires-4
@@ -87,15 +103,44 @@ enum-told-4 c = search needs
 
 -- src/datagram.rt:54:17
 returns-6 : tie.Need-returns-6
-returns-6 c = sym (ap asHead (head-cut-3 _ (c .before .before .before .before .before .before .before .before .before .before .before .before .before .before .before .before .before .before .before .before .if1 .left) _ _ (sym (c .before .before .before .before .before .before .before .before .before .before .before .before .before .before .before .before .before .before .before .read-word .ensures) ∙ c .before .before .before .before .before .before .before .before .before .before .before .before .before .before .before .before .before .version .given .1) (c .before .before .before .before .before .before .before .before .before .before .before .before .before .before .before .if2 .left) _ _ (sym (c .before .before .before .before .before .before .before .before .before .before .before .before .before .before .read-address .ensures) ∙ c .before .before .before .before .before .before .before .before .before .before .before .before .agent .given .1) _ _ (sym (c .before .before .before .before .before .before .before .before .before .before .read-word2 .ensures) ∙ c .before .before .before .before .before .before .before .before .sequence-number .given .1) _ _ (sym (c .before .before .before .before .before .before .read-word3 .ensures) ∙ c .before .before .before .before .uptime .given .1) _ (sym (c .before .before .read-word4 .ensures) ∙ c .enum-told4 .given .1)))
+returns-6 c =
+    let at-uptime = c .before .before .before .before in
+    let at-read-word3 = at-uptime .before .before in
+    let at-sequence-number = at-read-word3 .before .before in
+    let at-read-word2 = at-sequence-number .before .before in
+    let at-agent = at-read-word2 .before .before in
+    let at-read-address = at-agent .before .before in
+    let at-if2 = at-read-address .before in
+    let at-version = at-if2 .before .before in
+    let at-read-word = at-version .before .before in
+    let at-if1 = at-read-word .before in
+    sym (ap asHead (head-cut-3 _ (at-if1 .if1 .left) _ _ (sym (at-read-word .read-word .ensures) ∙ at-version .version .given .1) (at-if2 .if2 .left) _ _ (sym (at-read-address .read-address .ensures) ∙ at-agent .agent .given .1) _ _ (sym (at-read-word2 .read-word2 .ensures) ∙ at-sequence-number .sequence-number .given .1) _ _ (sym (at-read-word3 .read-word3 .ensures) ∙ at-uptime .uptime .given .1) _ (sym (c .before .before .read-word4 .ensures) ∙ c .enum-told4 .given .1)))
 
 -- src/datagram.rt:32:1
 returns-7 : tie.Need-returns-7
-returns-7 c = sym (ap asHead (head-agent-refused _ (c .before .before .before .before .before .before .before .before .before .if1 .left) _ _ (sym (c .before .before .before .before .before .before .before .before .read-word .ensures) ∙ c .before .before .before .before .before .before .version .given .1) (c .before .before .before .before .if2 .left) _ _ (sym (c .before .before .before .read-address .ensures) ∙ c .before .why .given .1)))
+returns-7 c =
+    let at-read-address = c .before .before .before in
+    let at-if2 = at-read-address .before in
+    let at-version = at-if2 .before .before in
+    let at-read-word = at-version .before .before in
+    let at-if1 = at-read-word .before in
+    sym (ap asHead (head-agent-refused _ (at-if1 .if1 .left) _ _ (sym (at-read-word .read-word .ensures) ∙ at-version .version .given .1) (at-if2 .if2 .left) _ _ (sym (at-read-address .read-address .ensures) ∙ c .before .why .given .1)))
 
 -- src/datagram.rt:32:1
 returns-8 : tie.Need-returns-8
-returns-8 c = sym (ap asHead (head-found _ (c .before .before .before .before .before .before .before .before .before .before .before .before .before .before .before .before .before .before .before .before .before .if1 .left) _ _ (sym (c .before .before .before .before .before .before .before .before .before .before .before .before .before .before .before .before .before .before .before .before .read-word .ensures) ∙ c .before .before .before .before .before .before .before .before .before .before .before .before .before .before .before .before .before .before .version .given .1) (c .before .before .before .before .before .before .before .before .before .before .before .before .before .before .before .before .if2 .left) _ _ (sym (c .before .before .before .before .before .before .before .before .before .before .before .before .before .before .before .read-address .ensures) ∙ c .before .before .before .before .before .before .before .before .before .before .before .before .before .agent .given .1) _ _ (sym (c .before .before .before .before .before .before .before .before .before .before .before .read-word2 .ensures) ∙ c .before .before .before .before .before .before .before .before .before .sequence-number .given .1) _ _ (sym (c .before .before .before .before .before .before .before .read-word3 .ensures) ∙ c .before .before .before .before .before .uptime .given .1) _ _ (sym (c .before .before .before .read-word4 .ensures) ∙ c .before .count .given .1)))
+returns-8 c =
+    let at-read-word4 = c .before .before .before in
+    let at-uptime = at-read-word4 .before .before in
+    let at-read-word3 = at-uptime .before .before in
+    let at-sequence-number = at-read-word3 .before .before in
+    let at-read-word2 = at-sequence-number .before .before in
+    let at-agent = at-read-word2 .before .before in
+    let at-read-address = at-agent .before .before in
+    let at-if2 = at-read-address .before in
+    let at-version = at-if2 .before .before in
+    let at-read-word = at-version .before .before in
+    let at-if1 = at-read-word .before in
+    sym (ap asHead (head-found _ (at-if1 .if1 .left) _ _ (sym (at-read-word .read-word .ensures) ∙ at-version .version .given .1) (at-if2 .if2 .left) _ _ (sym (at-read-address .read-address .ensures) ∙ at-agent .agent .given .1) _ _ (sym (at-read-word2 .read-word2 .ensures) ∙ at-sequence-number .sequence-number .given .1) _ _ (sym (at-read-word3 .read-word3 .ensures) ∙ at-uptime .uptime .given .1) _ _ (sym (at-read-word4 .read-word4 .ensures) ∙ c .before .count .given .1)))
 
 pub read-head-spec : {M : Type 1} → statement M
 read-head-spec =

@@ -41,13 +41,24 @@ enum-told-3 : tie.Need-enum-told-3
 enum-told-3 c = search needs
 
 returns-3 : tie.Need-returns-3
-returns-3 c = sym (passed-then _ _ _ _ _ (passed-run _ _ _ _ _ refl (sym (c .before .before .before .before .before .before .before .before .before .before .pass-run .ensures) ∙ c .before .before .before .before .before .before .before .before .words .given .1)) ∙ passed-then _ _ _ _ _ (sym (c .before .before .before .before .before .before .pass-packet .ensures) ∙ c .before .before .before .before .packet .given .1) ∙ passed-list-cut _ _ _ _ (sym (c .before .before .read-word .ensures) ∙ c .enum-told3 .given .1))
+returns-3 c =
+    let at-packet = c .before .before .before .before in
+    let at-pass-packet = at-packet .before .before in
+    let at-words = at-pass-packet .before .before in
+    let at-pass-run = at-words .before .before in
+    sym (passed-then _ _ _ _ _ (passed-run _ _ _ _ _ refl (sym (at-pass-run .pass-run .ensures) ∙ at-words .words .given .1)) ∙ passed-then _ _ _ _ _ (sym (at-pass-packet .pass-packet .ensures) ∙ at-packet .packet .given .1) ∙ passed-list-cut _ _ _ _ (sym (c .before .before .read-word .ensures) ∙ c .enum-told3 .given .1))
 
 pass-extended-requires : tie.Need-pass-extended-requires
 pass-extended-requires c κs = search needs
 
 returns-4 : tie.Need-returns-4
-returns-4 c = c .pass-extended .ensures ∙ sym (passed-then _ _ _ _ _ (passed-run _ _ _ _ _ refl (sym (c .before .before .before .before .before .before .before .before .before .before .before .before .pass-run .ensures) ∙ c .before .before .before .before .before .before .before .before .before .before .words .given .1)) ∙ passed-then _ _ _ _ _ (sym (c .before .before .before .before .before .before .before .before .pass-packet .ensures) ∙ c .before .before .before .before .before .before .packet .given .1) ∙ passed-list _ _ _ _ _ (sym (c .before .before .before .before .read-word .ensures) ∙ c .before .before .count .given .1))
+returns-4 c =
+    let at-read-word = c .before .before .before .before in
+    let at-packet = at-read-word .before .before in
+    let at-pass-packet = at-packet .before .before in
+    let at-words = at-pass-packet .before .before in
+    let at-pass-run = at-words .before .before in
+    c .pass-extended .ensures ∙ sym (passed-then _ _ _ _ _ (passed-run _ _ _ _ _ refl (sym (at-pass-run .pass-run .ensures) ∙ at-words .words .given .1)) ∙ passed-then _ _ _ _ _ (sym (at-pass-packet .pass-packet .ensures) ∙ at-packet .packet .given .1) ∙ passed-list _ _ _ _ _ (sym (at-read-word .read-word .ensures) ∙ c .before .before .count .given .1))
 
 pub pass-flow-spec : {M : Type 1} → statement M
 pass-flow-spec =

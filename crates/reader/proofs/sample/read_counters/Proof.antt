@@ -52,7 +52,12 @@ enum-told-3 c = search needs
 
 -- src/sample.rt:143:9
 returns-3 : tie.Need-returns-3
-returns-3 c = sym (ap asCounters (counters-cut _ _ _ (reads-found (word-then (sym (c .before .before .before .before .before .before .before .before .before .before .read-word .ensures) ∙ c .before .before .before .before .before .before .before .before .sequence-number .given .1) (word-then (sym (c .before .before .before .before .before .before .read-word2 .ensures) ∙ c .before .before .before .before .source-id .given .1) (word-cut (sym (c .before .before .read-word3 .ensures) ∙ c .enum-told3 .given .1)))))))
+returns-3 c =
+    let at-source-id = c .before .before .before .before in
+    let at-read-word2 = at-source-id .before .before in
+    let at-sequence-number = at-read-word2 .before .before in
+    let at-read-word = at-sequence-number .before .before in
+    sym (ap asCounters (counters-cut _ _ _ (reads-found (word-then (sym (at-read-word .read-word .ensures) ∙ at-sequence-number .sequence-number .given .1) (word-then (sym (at-read-word2 .read-word2 .ensures) ∙ at-source-id .source-id .given .1) (word-cut (sym (c .before .before .read-word3 .ensures) ∙ c .enum-told3 .given .1)))))))
 
 -- src/sample.rt:145:11
 read-counter-body-requires : tie.Need-read-counter-body-requires
@@ -68,11 +73,27 @@ enum-known-counters c = search needs
 
 -- src/sample.rt:133:1
 returns-4 : tie.Need-returns-4
-returns-4 c = sym (ap asCounters (counters-refused _ _ _ _ _ _ _ _ (sym (c .before .before .before .before .before .before .before .before .before .before .before .before .before .before .before .read-word .ensures) ∙ c .before .before .before .before .before .before .before .before .before .before .before .before .before .sequence-number .given .1) (sym (c .before .before .before .before .before .before .before .before .before .before .before .read-word2 .ensures) ∙ c .before .before .before .before .before .before .before .before .before .source-id .given .1) (sym (c .before .before .before .before .before .before .before .read-word3 .ensures) ∙ c .before .before .before .before .before .sampling-interval .given .1) _ _ (sym (c .before .before .before .read-counter-body .ensures) ∙ c .before .why .given .1)))
+returns-4 c =
+    let at-read-counter-body = c .before .before .before in
+    let at-sampling-interval = at-read-counter-body .before .before in
+    let at-read-word3 = at-sampling-interval .before .before in
+    let at-source-id = at-read-word3 .before .before in
+    let at-read-word2 = at-source-id .before .before in
+    let at-sequence-number = at-read-word2 .before .before in
+    let at-read-word = at-sequence-number .before .before in
+    sym (ap asCounters (counters-refused _ _ _ _ _ _ _ _ (sym (at-read-word .read-word .ensures) ∙ at-sequence-number .sequence-number .given .1) (sym (at-read-word2 .read-word2 .ensures) ∙ at-source-id .source-id .given .1) (sym (at-read-word3 .read-word3 .ensures) ∙ at-sampling-interval .sampling-interval .given .1) _ _ (sym (at-read-counter-body .read-counter-body .ensures) ∙ c .before .why .given .1)))
 
 -- src/sample.rt:133:1
 returns-5 : tie.Need-returns-5
-returns-5 c = sym (ap asCounters (counters-found _ _ _ _ _ _ _ _ (sym (c .before .before .before .before .before .before .before .before .before .before .before .before .before .before .before .read-word .ensures) ∙ c .before .before .before .before .before .before .before .before .before .before .before .before .before .sequence-number .given .1) (sym (c .before .before .before .before .before .before .before .before .before .before .before .read-word2 .ensures) ∙ c .before .before .before .before .before .before .before .before .before .source-id .given .1) (sym (c .before .before .before .before .before .before .before .read-word3 .ensures) ∙ c .before .before .before .before .before .sampling-interval .given .1) _ _ (sym (c .before .before .before .read-counter-body .ensures) ∙ c .before .counters .given .1)))
+returns-5 c =
+    let at-read-counter-body = c .before .before .before in
+    let at-sampling-interval = at-read-counter-body .before .before in
+    let at-read-word3 = at-sampling-interval .before .before in
+    let at-source-id = at-read-word3 .before .before in
+    let at-read-word2 = at-source-id .before .before in
+    let at-sequence-number = at-read-word2 .before .before in
+    let at-read-word = at-sequence-number .before .before in
+    sym (ap asCounters (counters-found _ _ _ _ _ _ _ _ (sym (at-read-word .read-word .ensures) ∙ at-sequence-number .sequence-number .given .1) (sym (at-read-word2 .read-word2 .ensures) ∙ at-source-id .source-id .given .1) (sym (at-read-word3 .read-word3 .ensures) ∙ at-sampling-interval .sampling-interval .given .1) _ _ (sym (at-read-counter-body .read-counter-body .ensures) ∙ c .before .counters .given .1)))
 
 pub read-counters-spec : {M : Type 1} → statement M
 read-counters-spec =

@@ -39,11 +39,19 @@ returns c = sym (ap asFlow (flow-words-refused _ _ _ _ (sym (c .before .before .
 
 -- src/sample.rt:120:1
 returns-2 : tie.Need-returns-2
-returns-2 c = sym (ap asFlow (flow-packet-refused _ _ _ _ _ _ (sym (c .before .before .before .before .before .before .before .read-flow-words .ensures) ∙ c .before .before .before .before .before .words .given .1) (sym (c .before .before .before .read-packet .ensures) ∙ c .before .why2 .given .1)))
+returns-2 c =
+    let at-read-packet = c .before .before .before in
+    let at-words = at-read-packet .before .before in
+    let at-read-flow-words = at-words .before .before in
+    sym (ap asFlow (flow-packet-refused _ _ _ _ _ _ (sym (at-read-flow-words .read-flow-words .ensures) ∙ at-words .words .given .1) (sym (at-read-packet .read-packet .ensures) ∙ c .before .why2 .given .1)))
 
 -- src/sample.rt:120:1
 returns-3 : tie.Need-returns-3
-returns-3 c = c .read-extended-list .ensures ∙ sym (ap asFlow (flow-list _ _ _ _ _ _ (sym (c .before .before .before .before .before .before .before .before .read-flow-words .ensures) ∙ c .before .before .before .before .before .before .words .given .1) (sym (c .before .before .before .before .read-packet .ensures) ∙ c .before .before .packet-data .given .1)))
+returns-3 c =
+    let at-read-packet = c .before .before .before .before in
+    let at-words = at-read-packet .before .before in
+    let at-read-flow-words = at-words .before .before in
+    c .read-extended-list .ensures ∙ sym (ap asFlow (flow-list _ _ _ _ _ _ (sym (at-read-flow-words .read-flow-words .ensures) ∙ at-words .words .given .1) (sym (at-read-packet .read-packet .ensures) ∙ c .before .before .packet-data .given .1)))
 
 pub read-flow-spec : {M : Type 1} → statement M
 read-flow-spec =

@@ -53,7 +53,12 @@ enum-told-3 c = search needs
 
 -- src/sample.rt:83:9
 returns-3 : tie.Need-returns-3
-returns-3 c = sym (ap asFlowWords (flow-words-reads (word-then (sym (c .before .before .before .before .before .before .before .before .before .before .read-word .ensures) ∙ c .before .before .before .before .before .before .before .before .sequence-number .given .1) (word-then (sym (c .before .before .before .before .before .before .read-word2 .ensures) ∙ c .before .before .before .before .source-id .given .1) (word-cut (sym (c .before .before .read-word3 .ensures) ∙ c .enum-told3 .given .1))))))
+returns-3 c =
+    let at-source-id = c .before .before .before .before in
+    let at-read-word2 = at-source-id .before .before in
+    let at-sequence-number = at-read-word2 .before .before in
+    let at-read-word = at-sequence-number .before .before in
+    sym (ap asFlowWords (flow-words-reads (word-then (sym (at-read-word .read-word .ensures) ∙ at-sequence-number .sequence-number .given .1) (word-then (sym (at-read-word2 .read-word2 .ensures) ∙ at-source-id .source-id .given .1) (word-cut (sym (c .before .before .read-word3 .ensures) ∙ c .enum-told3 .given .1))))))
 
 -- src/sample.rt:85:43
 read-word-requires-4 : tie.Need-read-word-requires-4
@@ -69,7 +74,14 @@ enum-told-4 c = search needs
 
 -- src/sample.rt:86:9
 returns-4 : tie.Need-returns-4
-returns-4 c = sym (ap asFlowWords (flow-words-reads (word-then (sym (c .before .before .before .before .before .before .before .before .before .before .before .before .before .before .read-word .ensures) ∙ c .before .before .before .before .before .before .before .before .before .before .before .before .sequence-number .given .1) (word-then (sym (c .before .before .before .before .before .before .before .before .before .before .read-word2 .ensures) ∙ c .before .before .before .before .before .before .before .before .source-id .given .1) (word-then (sym (c .before .before .before .before .before .before .read-word3 .ensures) ∙ c .before .before .before .before .sampling-rate .given .1) (word-cut (sym (c .before .before .read-word4 .ensures) ∙ c .enum-told4 .given .1)))))))
+returns-4 c =
+    let at-sampling-rate = c .before .before .before .before in
+    let at-read-word3 = at-sampling-rate .before .before in
+    let at-source-id = at-read-word3 .before .before in
+    let at-read-word2 = at-source-id .before .before in
+    let at-sequence-number = at-read-word2 .before .before in
+    let at-read-word = at-sequence-number .before .before in
+    sym (ap asFlowWords (flow-words-reads (word-then (sym (at-read-word .read-word .ensures) ∙ at-sequence-number .sequence-number .given .1) (word-then (sym (at-read-word2 .read-word2 .ensures) ∙ at-source-id .source-id .given .1) (word-then (sym (at-read-word3 .read-word3 .ensures) ∙ at-sampling-rate .sampling-rate .given .1) (word-cut (sym (c .before .before .read-word4 .ensures) ∙ c .enum-told4 .given .1)))))))
 
 -- src/sample.rt:88:37
 read-word-requires-5 : tie.Need-read-word-requires-5
@@ -85,7 +97,16 @@ enum-told-5 c = search needs
 
 -- src/sample.rt:89:9
 returns-5 : tie.Need-returns-5
-returns-5 c = sym (ap asFlowWords (flow-words-reads (word-then (sym (c .before .before .before .before .before .before .before .before .before .before .before .before .before .before .before .before .before .before .read-word .ensures) ∙ c .before .before .before .before .before .before .before .before .before .before .before .before .before .before .before .before .sequence-number .given .1) (word-then (sym (c .before .before .before .before .before .before .before .before .before .before .before .before .before .before .read-word2 .ensures) ∙ c .before .before .before .before .before .before .before .before .before .before .before .before .source-id .given .1) (word-then (sym (c .before .before .before .before .before .before .before .before .before .before .read-word3 .ensures) ∙ c .before .before .before .before .before .before .before .before .sampling-rate .given .1) (word-then (sym (c .before .before .before .before .before .before .read-word4 .ensures) ∙ c .before .before .before .before .sample-pool .given .1) (word-cut (sym (c .before .before .read-word5 .ensures) ∙ c .enum-told5 .given .1))))))))
+returns-5 c =
+    let at-sample-pool = c .before .before .before .before in
+    let at-read-word4 = at-sample-pool .before .before in
+    let at-sampling-rate = at-read-word4 .before .before in
+    let at-read-word3 = at-sampling-rate .before .before in
+    let at-source-id = at-read-word3 .before .before in
+    let at-read-word2 = at-source-id .before .before in
+    let at-sequence-number = at-read-word2 .before .before in
+    let at-read-word = at-sequence-number .before .before in
+    sym (ap asFlowWords (flow-words-reads (word-then (sym (at-read-word .read-word .ensures) ∙ at-sequence-number .sequence-number .given .1) (word-then (sym (at-read-word2 .read-word2 .ensures) ∙ at-source-id .source-id .given .1) (word-then (sym (at-read-word3 .read-word3 .ensures) ∙ at-sampling-rate .sampling-rate .given .1) (word-then (sym (at-read-word4 .read-word4 .ensures) ∙ at-sample-pool .sample-pool .given .1) (word-cut (sym (c .before .before .read-word5 .ensures) ∙ c .enum-told5 .given .1))))))))
 
 -- src/sample.rt:91:37
 read-word-requires-6 : tie.Need-read-word-requires-6
@@ -101,7 +122,18 @@ enum-told-6 c = search needs
 
 -- src/sample.rt:92:9
 returns-6 : tie.Need-returns-6
-returns-6 c = sym (ap asFlowWords (flow-words-reads (word-then (sym (c .before .before .before .before .before .before .before .before .before .before .before .before .before .before .before .before .before .before .before .before .before .before .read-word .ensures) ∙ c .before .before .before .before .before .before .before .before .before .before .before .before .before .before .before .before .before .before .before .before .sequence-number .given .1) (word-then (sym (c .before .before .before .before .before .before .before .before .before .before .before .before .before .before .before .before .before .before .read-word2 .ensures) ∙ c .before .before .before .before .before .before .before .before .before .before .before .before .before .before .before .before .source-id .given .1) (word-then (sym (c .before .before .before .before .before .before .before .before .before .before .before .before .before .before .read-word3 .ensures) ∙ c .before .before .before .before .before .before .before .before .before .before .before .before .sampling-rate .given .1) (word-then (sym (c .before .before .before .before .before .before .before .before .before .before .read-word4 .ensures) ∙ c .before .before .before .before .before .before .before .before .sample-pool .given .1) (word-then (sym (c .before .before .before .before .before .before .read-word5 .ensures) ∙ c .before .before .before .before .drops .given .1) (word-cut (sym (c .before .before .read-word6 .ensures) ∙ c .enum-told6 .given .1)))))))))
+returns-6 c =
+    let at-drops = c .before .before .before .before in
+    let at-read-word5 = at-drops .before .before in
+    let at-sample-pool = at-read-word5 .before .before in
+    let at-read-word4 = at-sample-pool .before .before in
+    let at-sampling-rate = at-read-word4 .before .before in
+    let at-read-word3 = at-sampling-rate .before .before in
+    let at-source-id = at-read-word3 .before .before in
+    let at-read-word2 = at-source-id .before .before in
+    let at-sequence-number = at-read-word2 .before .before in
+    let at-read-word = at-sequence-number .before .before in
+    sym (ap asFlowWords (flow-words-reads (word-then (sym (at-read-word .read-word .ensures) ∙ at-sequence-number .sequence-number .given .1) (word-then (sym (at-read-word2 .read-word2 .ensures) ∙ at-source-id .source-id .given .1) (word-then (sym (at-read-word3 .read-word3 .ensures) ∙ at-sampling-rate .sampling-rate .given .1) (word-then (sym (at-read-word4 .read-word4 .ensures) ∙ at-sample-pool .sample-pool .given .1) (word-then (sym (at-read-word5 .read-word5 .ensures) ∙ at-drops .drops .given .1) (word-cut (sym (c .before .before .read-word6 .ensures) ∙ c .enum-told6 .given .1)))))))))
 
 -- src/sample.rt:94:40
 read-word-requires-7 : tie.Need-read-word-requires-7
@@ -117,11 +149,38 @@ enum-told-7 c = search needs
 
 -- src/sample.rt:95:9
 returns-7 : tie.Need-returns-7
-returns-7 c = sym (ap asFlowWords (flow-words-reads (word-then (sym (c .before .before .before .before .before .before .before .before .before .before .before .before .before .before .before .before .before .before .before .before .before .before .before .before .before .before .read-word .ensures) ∙ c .before .before .before .before .before .before .before .before .before .before .before .before .before .before .before .before .before .before .before .before .before .before .before .before .sequence-number .given .1) (word-then (sym (c .before .before .before .before .before .before .before .before .before .before .before .before .before .before .before .before .before .before .before .before .before .before .read-word2 .ensures) ∙ c .before .before .before .before .before .before .before .before .before .before .before .before .before .before .before .before .before .before .before .before .source-id .given .1) (word-then (sym (c .before .before .before .before .before .before .before .before .before .before .before .before .before .before .before .before .before .before .read-word3 .ensures) ∙ c .before .before .before .before .before .before .before .before .before .before .before .before .before .before .before .before .sampling-rate .given .1) (word-then (sym (c .before .before .before .before .before .before .before .before .before .before .before .before .before .before .read-word4 .ensures) ∙ c .before .before .before .before .before .before .before .before .before .before .before .before .sample-pool .given .1) (word-then (sym (c .before .before .before .before .before .before .before .before .before .before .read-word5 .ensures) ∙ c .before .before .before .before .before .before .before .before .drops .given .1) (word-then (sym (c .before .before .before .before .before .before .read-word6 .ensures) ∙ c .before .before .before .before .input .given .1) (word-cut (sym (c .before .before .read-word7 .ensures) ∙ c .enum-told7 .given .1))))))))))
+returns-7 c =
+    let at-input = c .before .before .before .before in
+    let at-read-word6 = at-input .before .before in
+    let at-drops = at-read-word6 .before .before in
+    let at-read-word5 = at-drops .before .before in
+    let at-sample-pool = at-read-word5 .before .before in
+    let at-read-word4 = at-sample-pool .before .before in
+    let at-sampling-rate = at-read-word4 .before .before in
+    let at-read-word3 = at-sampling-rate .before .before in
+    let at-source-id = at-read-word3 .before .before in
+    let at-read-word2 = at-source-id .before .before in
+    let at-sequence-number = at-read-word2 .before .before in
+    let at-read-word = at-sequence-number .before .before in
+    sym (ap asFlowWords (flow-words-reads (word-then (sym (at-read-word .read-word .ensures) ∙ at-sequence-number .sequence-number .given .1) (word-then (sym (at-read-word2 .read-word2 .ensures) ∙ at-source-id .source-id .given .1) (word-then (sym (at-read-word3 .read-word3 .ensures) ∙ at-sampling-rate .sampling-rate .given .1) (word-then (sym (at-read-word4 .read-word4 .ensures) ∙ at-sample-pool .sample-pool .given .1) (word-then (sym (at-read-word5 .read-word5 .ensures) ∙ at-drops .drops .given .1) (word-then (sym (at-read-word6 .read-word6 .ensures) ∙ at-input .input .given .1) (word-cut (sym (c .before .before .read-word7 .ensures) ∙ c .enum-told7 .given .1))))))))))
 
 -- src/sample.rt:73:1
 returns-8 : tie.Need-returns-8
-returns-8 c = sym (ap asFlowWords (flow-words-reads (word-then (sym (c .before .before .before .before .before .before .before .before .before .before .before .before .before .before .before .before .before .before .before .before .before .before .before .before .before .before .before .read-word .ensures) ∙ c .before .before .before .before .before .before .before .before .before .before .before .before .before .before .before .before .before .before .before .before .before .before .before .before .before .sequence-number .given .1) (word-then (sym (c .before .before .before .before .before .before .before .before .before .before .before .before .before .before .before .before .before .before .before .before .before .before .before .read-word2 .ensures) ∙ c .before .before .before .before .before .before .before .before .before .before .before .before .before .before .before .before .before .before .before .before .before .source-id .given .1) (word-then (sym (c .before .before .before .before .before .before .before .before .before .before .before .before .before .before .before .before .before .before .before .read-word3 .ensures) ∙ c .before .before .before .before .before .before .before .before .before .before .before .before .before .before .before .before .before .sampling-rate .given .1) (word-then (sym (c .before .before .before .before .before .before .before .before .before .before .before .before .before .before .before .read-word4 .ensures) ∙ c .before .before .before .before .before .before .before .before .before .before .before .before .before .sample-pool .given .1) (word-then (sym (c .before .before .before .before .before .before .before .before .before .before .before .read-word5 .ensures) ∙ c .before .before .before .before .before .before .before .before .before .drops .given .1) (word-then (sym (c .before .before .before .before .before .before .before .read-word6 .ensures) ∙ c .before .before .before .before .before .input .given .1) (word-then (sym (c .before .before .before .read-word7 .ensures) ∙ c .before .output .given .1) no-more)))))))))
+returns-8 c =
+    let at-read-word7 = c .before .before .before in
+    let at-input = at-read-word7 .before .before in
+    let at-read-word6 = at-input .before .before in
+    let at-drops = at-read-word6 .before .before in
+    let at-read-word5 = at-drops .before .before in
+    let at-sample-pool = at-read-word5 .before .before in
+    let at-read-word4 = at-sample-pool .before .before in
+    let at-sampling-rate = at-read-word4 .before .before in
+    let at-read-word3 = at-sampling-rate .before .before in
+    let at-source-id = at-read-word3 .before .before in
+    let at-read-word2 = at-source-id .before .before in
+    let at-sequence-number = at-read-word2 .before .before in
+    let at-read-word = at-sequence-number .before .before in
+    sym (ap asFlowWords (flow-words-reads (word-then (sym (at-read-word .read-word .ensures) ∙ at-sequence-number .sequence-number .given .1) (word-then (sym (at-read-word2 .read-word2 .ensures) ∙ at-source-id .source-id .given .1) (word-then (sym (at-read-word3 .read-word3 .ensures) ∙ at-sampling-rate .sampling-rate .given .1) (word-then (sym (at-read-word4 .read-word4 .ensures) ∙ at-sample-pool .sample-pool .given .1) (word-then (sym (at-read-word5 .read-word5 .ensures) ∙ at-drops .drops .given .1) (word-then (sym (at-read-word6 .read-word6 .ensures) ∙ at-input .input .given .1) (word-then (sym (at-read-word7 .read-word7 .ensures) ∙ c .before .output .given .1) no-more)))))))))
 
 pub read-flow-words-spec : {M : Type 1} → statement M
 read-flow-words-spec =

@@ -34,15 +34,30 @@ enum-known-flow c = search needs
 
 -- src/sample.rt:195:44
 sample-to-requires : tie.Need-sample-to-requires
-sample-to-requires c κs = sample-flow-behind _ _ _ _ (sym (c .before .before .before .before .before .before .before .before .read-word .ensures) ∙ c .before .before .before .before .before .before .kind .given .1) (c .before .before .before .before .if1 .taken) _ _ (sym (c .before .before .before .read-flow .ensures) ∙ c .before .flow .given .1)
+sample-to-requires c κs =
+    let at-read-flow = c .before .before .before in
+    let at-if1 = at-read-flow .before in
+    let at-kind = at-if1 .before .before in
+    let at-read-word = at-kind .before .before in
+    sample-flow-behind _ _ _ _ (sym (at-read-word .read-word .ensures) ∙ at-kind .kind .given .1) (at-if1 .if1 .taken) _ _ (sym (at-read-flow .read-flow .ensures) ∙ c .before .flow .given .1)
 
 -- src/sample.rt:193:9
 returns-2 : tie.Need-returns-2
-returns-2 c = rw (sample-flow-refused _ _ _ _ (sym (c .before .before .before .before .before .before .before .before .read-word .ensures) ∙ c .before .before .before .before .before .before .kind .given .1) (c .before .before .before .before .if1 .taken) _ _ (sym (c .before .before .before .read-flow .ensures) ∙ c .before .why .given .1))
+returns-2 c =
+    let at-read-flow = c .before .before .before in
+    let at-if1 = at-read-flow .before in
+    let at-kind = at-if1 .before .before in
+    let at-read-word = at-kind .before .before in
+    rw (sample-flow-refused _ _ _ _ (sym (at-read-word .read-word .ensures) ∙ at-kind .kind .given .1) (at-if1 .if1 .taken) _ _ (sym (at-read-flow .read-flow .ensures) ∙ c .before .why .given .1))
 
 -- src/sample.rt:193:9
 returns-3 : tie.Need-returns-3
-returns-3 c = rw (sample-flow _ _ _ _ (sym (c .before .before .before .before .before .before .before .before .before .read-word .ensures) ∙ c .before .before .before .before .before .before .before .kind .given .1) (c .before .before .before .before .before .if1 .taken) _ _ (sym (c .before .before .before .before .read-flow .ensures) ∙ c .before .before .flow .given .1)) (c .sample-to .ensures)
+returns-3 c =
+    let at-read-flow = c .before .before .before .before in
+    let at-if1 = at-read-flow .before in
+    let at-kind = at-if1 .before .before in
+    let at-read-word = at-kind .before .before in
+    rw (sample-flow _ _ _ _ (sym (at-read-word .read-word .ensures) ∙ at-kind .kind .given .1) (at-if1 .if1 .taken) _ _ (sym (at-read-flow .read-flow .ensures) ∙ c .before .before .flow .given .1)) (c .sample-to .ensures)
 
 -- src/sample.rt:199:22
 read-counters-requires : tie.Need-read-counters-requires
@@ -58,15 +73,30 @@ enum-known-counters c = search needs
 
 -- src/sample.rt:201:52
 sample-to-requires-2 : tie.Need-sample-to-requires-2
-sample-to-requires-2 c κs = sample-counters-behind _ _ _ _ (sym (c .before .before .before .before .before .before .before .before .before .read-word .ensures) ∙ c .before .before .before .before .before .before .before .kind .given .1) (c .before .before .before .before .if2 .taken) _ _ (sym (c .before .before .before .read-counters .ensures) ∙ c .before .counters .given .1)
+sample-to-requires-2 c κs =
+    let at-read-counters = c .before .before .before in
+    let at-if2 = at-read-counters .before in
+    let at-kind = at-if2 .before .before .before in
+    let at-read-word = at-kind .before .before in
+    sample-counters-behind _ _ _ _ (sym (at-read-word .read-word .ensures) ∙ at-kind .kind .given .1) (at-if2 .if2 .taken) _ _ (sym (at-read-counters .read-counters .ensures) ∙ c .before .counters .given .1)
 
 -- src/sample.rt:199:9
 returns-4 : tie.Need-returns-4
-returns-4 c = rw (sample-counters-refused _ _ _ _ (sym (c .before .before .before .before .before .before .before .before .before .read-word .ensures) ∙ c .before .before .before .before .before .before .before .kind .given .1) (c .before .before .before .before .if2 .taken) _ _ (sym (c .before .before .before .read-counters .ensures) ∙ c .before .why2 .given .1))
+returns-4 c =
+    let at-read-counters = c .before .before .before in
+    let at-if2 = at-read-counters .before in
+    let at-kind = at-if2 .before .before .before in
+    let at-read-word = at-kind .before .before in
+    rw (sample-counters-refused _ _ _ _ (sym (at-read-word .read-word .ensures) ∙ at-kind .kind .given .1) (at-if2 .if2 .taken) _ _ (sym (at-read-counters .read-counters .ensures) ∙ c .before .why2 .given .1))
 
 -- src/sample.rt:199:9
 returns-5 : tie.Need-returns-5
-returns-5 c = rw (sample-counters _ _ _ _ (sym (c .before .before .before .before .before .before .before .before .before .before .read-word .ensures) ∙ c .before .before .before .before .before .before .before .before .kind .given .1) (c .before .before .before .before .before .if2 .taken) _ _ (sym (c .before .before .before .before .read-counters .ensures) ∙ c .before .before .counters .given .1)) (c .sample-to2 .ensures)
+returns-5 c =
+    let at-read-counters = c .before .before .before .before in
+    let at-if2 = at-read-counters .before in
+    let at-kind = at-if2 .before .before .before in
+    let at-read-word = at-kind .before .before in
+    rw (sample-counters _ _ _ _ (sym (at-read-word .read-word .ensures) ∙ at-kind .kind .given .1) (at-if2 .if2 .taken) _ _ (sym (at-read-counters .read-counters .ensures) ∙ c .before .before .counters .given .1)) (c .sample-to2 .ensures)
 
 -- src/sample.rt:186:1
 returns-6 : tie.Need-returns-6

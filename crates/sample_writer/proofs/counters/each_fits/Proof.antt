@@ -40,13 +40,25 @@ loop-less : tie.Need-loop-less Inv-loop μ-loop
 loop-less c = search needs
 
 loop-again : tie.Need-loop-again Inv-loop μ-loop
-loop-again c = (search needs, first-width (c .before .before .before .before .before .before .before .before .before .args .widths .now) _ (c .before .before .before .before .loop-test .taken) (c .before .before .before .before .before .loop .inv .1) .1, fit-more (c .before .before .before .before .before .before .before .before .before .args .widths .now) (c .before .before .before .before .before .before .before .before .before .args .numbers .now) _ (c .before .before .before .before .loop-test .taken) (c .before .before .before .before .before .before .if1 .left) (sym (c .before .fits-width .ensures) ∙ c .if2 .taken) ∙ c .before .before .before .before .before .loop .inv .2)
+loop-again c =
+    let at-loop-test = c .before .before .before .before in
+    let at-loop = at-loop-test .before in
+    let at-if1 = at-loop .before in
+    let entry = at-if1 .before .before .before in
+    (search needs, first-width (entry .args .widths .now) _ (at-loop-test .loop-test .taken) (at-loop .loop .inv .1) .1, fit-more (entry .args .widths .now) (entry .args .numbers .now) _ (at-loop-test .loop-test .taken) (at-if1 .if1 .left) (sym (c .before .fits-width .ensures) ∙ c .if2 .taken) ∙ at-loop .loop .inv .2)
 
 returns-2 : tie.Need-returns-2 Inv-loop μ-loop
-returns-2 c = fit-stop (c .before .before .before .before .before .before .before .before .before .args .widths .now) (c .before .before .before .before .before .before .before .before .before .args .numbers .now) _ (c .before .before .before .before .loop-test .taken) (c .before .before .before .before .before .before .if1 .left) (sym (c .before .fits-width .ensures) ∙ c .if2 .left) ∙ c .before .before .before .before .before .loop .inv .2
+returns-2 c =
+    let at-loop-test = c .before .before .before .before in
+    let at-loop = at-loop-test .before in
+    let at-if1 = at-loop .before in
+    let entry = at-if1 .before .before .before in
+    fit-stop (entry .args .widths .now) (entry .args .numbers .now) _ (at-loop-test .loop-test .taken) (at-if1 .if1 .left) (sym (c .before .fits-width .ensures) ∙ c .if2 .left) ∙ at-loop .loop .inv .2
 
 returns-3 : tie.Need-returns-3 Inv-loop μ-loop
-returns-3 c = fit-end (c .before .before .before .before .before .args .widths .now) (c .before .before .before .before .before .args .numbers .now) _ (c .loop-test .left) (c .before .before .if1 .left) ∙ c .before .loop .inv .2
+returns-3 c =
+    let entry = c .before .before .before .before .before in
+    fit-end (entry .args .widths .now) (entry .args .numbers .now) _ (c .loop-test .left) (c .before .before .if1 .left) ∙ c .before .loop .inv .2
 
 pub each-fits-spec : {M : Type 1} → statement M
 each-fits-spec =

@@ -14,7 +14,9 @@ abbrev μ-loop : tie.MeasureT-loop
 μ-loop d₀ at widths numbers i₀ p₀ d i p = length widths - i
 
 loop-holds : tie.Need-loop-holds Inv-loop μ-loop
-loop-holds c = put-start _ _ _ _ (c .before .before .before .pre .0) (c .before .before .before .pre .1) (c .before .before .before .pre .2)
+loop-holds c =
+    let at-pre = c .before .before .before in
+    put-start _ _ _ _ (at-pre .pre .0) (at-pre .pre .1) (at-pre .pre .2)
 
 shared-slice-read-write-number : tie.Need-shared-slice-read-write-number Inv-loop μ-loop
 shared-slice-read-write-number c = search needs
@@ -35,7 +37,10 @@ cast-p : tie.Need-cast-p Inv-loop μ-loop
 cast-p c = omega (arith, c .shared-slice-known5 .given (c .before .before .before .before .before .before .before .before .loop .i))
 
 add-p : tie.Need-add-p Inv-loop μ-loop
-add-p c = let n = put-next _ _ _ _ _ _ _ (c .before .before .before .before .before .before .before .before .loop .inv) (c .before .before .before .before .before .before .before .loop-test .taken) in omega (arith, n .width-is, c .before .before .before .before .before .before .before .before .loop .inv .room)
+add-p c =
+    let at-loop-test = c .before .before .before .before .before .before .before in
+    let at-loop = at-loop-test .before in
+    let n = put-next _ _ _ _ _ _ _ (at-loop .loop .inv) (at-loop-test .loop-test .taken) in omega (arith, n .width-is, at-loop .loop .inv .room)
 
 add-i : tie.Need-add-i Inv-loop μ-loop
 add-i c = search needs
@@ -44,7 +49,11 @@ loop-less : tie.Need-loop-less Inv-loop μ-loop
 loop-less c = search needs
 
 loop-again : tie.Need-loop-again Inv-loop μ-loop
-loop-again c = put-step _ _ _ _ _ _ _ _ _ (c .before .before .before .before .before .before .before .before .loop .inv) (c .before .before .before .before .before .before .before .loop-test .taken) (c .before .before .before .write-number .ensures)
+loop-again c =
+    let at-write-number = c .before .before .before in
+    let at-loop-test = at-write-number .before .before .before .before in
+    let at-loop = at-loop-test .before in
+    put-step _ _ _ _ _ _ _ _ _ (at-loop .loop .inv) (at-loop-test .loop-test .taken) (at-write-number .write-number .ensures)
 
 same-length : tie.Need-same-length Inv-loop μ-loop
 same-length c = c .before .loop .inv .long

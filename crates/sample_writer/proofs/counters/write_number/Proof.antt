@@ -16,7 +16,9 @@ returns : tie.Need-returns
 returns c = c .before .before .write-hyper .ensures ∙ rw (c .before .before .before .before .if1 .taken)
 
 cast-write-word : tie.Need-cast-write-word
-cast-write-word c = let w = word-width _ (c .before .before .before .pre .0) (c .before .if1 .left) in let h : c .before .before .before .args .v < 256 ^ 4 = rw w at (c .before .before .before .pre .1) in omega arith
+cast-write-word c =
+    let entry = c .before .before .before in
+    let w = word-width _ (entry .pre .0) (c .before .if1 .left) in let h : entry .args .v < 256 ^ 4 = rw w at (entry .pre .1) in omega arith
 
 write-word-requires : tie.Need-write-word-requires
 write-word-requires c κs = search needs

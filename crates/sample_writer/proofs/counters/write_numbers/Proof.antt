@@ -7,25 +7,42 @@ use Rattle.sample_writer.proofs.counters.write_numbers.Statement.{state
 use Rattle.sample_writer.proofs.counters.write_numbers.Tie as tie
 
 each-fits-requires : tie.Need-each-fits-requires
-each-fits-requires c κs = widths-are (c .before .before .before .before .args .widths .now) (c .before .before .before .before .pre .0)
+each-fits-requires c κs =
+    let entry = c .before .before .before .before in
+    widths-are (entry .args .widths .now) (entry .pre .0)
 
 returns : tie.Need-returns
-returns c = numbers-full (c .before .before .before .before .before .before .before .args .d .now) (c .before .before .before .before .before .before .before .args .head .now) (c .before .before .before .before .before .before .before .args .widths .now) (c .before .before .before .before .before .before .before .args .numbers .now) (c .before .before .before .before .before .before .before .args .total) (c .before .before .before .before .before .before .before .pre .1) (c .before .before .before .before .before .before .before .pre .2) (sym (c .before .before .each-fits .ensures) ∙ c .before .if1 .taken) (c .if2 .taken)
+returns c =
+    let entry = c .before .before .before .before .before .before .before in
+    numbers-full (entry .args .d .now) (entry .args .head .now) (entry .args .widths .now) (entry .args .numbers .now) (entry .args .total) (entry .pre .1) (entry .pre .2) (sym (c .before .before .each-fits .ensures) ∙ c .before .if1 .taken) (c .if2 .taken)
 
 write-words-requires : tie.Need-write-words-requires
 write-words-requires c κs = search needs
 
 put-numbers-requires : tie.Need-put-numbers-requires
-put-numbers-requires c κs = let p = head-put _ (c .before .before .before .before .before .before .before .before .before .before .before .before .args .head .now) _ _ (c .before .before .before .before .before .before .before .before .before .before .before .before .pre .1) (omega arith) (c .before .before .before .write-words .ensures) in (widths-are (c .before .before .before .before .before .before .before .before .before .before .before .before .args .widths .now) (c .before .before .before .before .before .before .before .before .before .before .before .before .pre .0), fits-told _ _ (sym (c .before .before .before .before .before .before .before .each-fits .ensures) ∙ c .before .before .before .before .before .before .if1 .taken), omega (arith, p .long))
+put-numbers-requires c κs =
+    let at-write-words = c .before .before .before in
+    let at-if1 = at-write-words .before .before .before in
+    let at-each-fits = at-if1 .before in
+    let entry = at-each-fits .before .before .before .before .before in
+    let p = head-put _ (entry .args .head .now) _ _ (entry .pre .1) (omega arith) (at-write-words .write-words .ensures) in (widths-are (entry .args .widths .now) (entry .pre .0), fits-told _ _ (sym (at-each-fits .each-fits .ensures) ∙ at-if1 .if1 .taken), omega (arith, p .long))
 
 same-length : tie.Need-same-length
 same-length c = search needs
 
 returns-2 : tie.Need-returns-2
-returns-2 c = numbers-done (c .before .before .before .before .before .before .before .before .before .before .before .before .before .before .before .args .d .now) (c .before .before .before .before .before .before .before .before .before .before .before .before .before .before .before .args .head .now) (c .before .before .before .before .before .before .before .before .before .before .before .before .before .before .before .args .widths .now) (c .before .before .before .before .before .before .before .before .before .before .before .before .before .before .before .args .numbers .now) (c .before .before .before .before .before .before .before .before .before .before .before .before .before .before .before .args .total) (c .before .before .before .before .before .before .before .before .before .before .before .before .before .before .before .pre .1) (c .before .before .before .before .before .before .before .before .before .before .before .before .before .before .before .pre .2) _ _ (sym (c .before .before .before .before .before .before .before .before .before .before .each-fits .ensures) ∙ c .before .before .before .before .before .before .before .before .before .if1 .taken) (c .before .before .before .before .before .before .before .before .if2 .left) (head-put _ (c .before .before .before .before .before .before .before .before .before .before .before .before .before .before .before .args .head .now) _ _ (c .before .before .before .before .before .before .before .before .before .before .before .before .before .before .before .pre .1) (omega arith) (c .before .before .before .before .before .before .write-words .ensures)) (c .before .before .put-numbers .ensures)
+returns-2 c =
+    let at-write-words = c .before .before .before .before .before .before in
+    let at-if2 = at-write-words .before .before in
+    let at-if1 = at-if2 .before in
+    let at-each-fits = at-if1 .before in
+    let entry = at-each-fits .before .before .before .before .before in
+    numbers-done (entry .args .d .now) (entry .args .head .now) (entry .args .widths .now) (entry .args .numbers .now) (entry .args .total) (entry .pre .1) (entry .pre .2) _ _ (sym (at-each-fits .each-fits .ensures) ∙ at-if1 .if1 .taken) (at-if2 .if2 .left) (head-put _ (entry .args .head .now) _ _ (entry .pre .1) (omega arith) (at-write-words .write-words .ensures)) (c .before .before .put-numbers .ensures)
 
 returns-3 : tie.Need-returns-3
-returns-3 c = numbers-bad (c .before .before .before .before .before .before .args .d .now) _ (c .before .before .before .before .before .before .args .widths .now) (c .before .before .before .before .before .before .args .numbers .now) (sym (c .before .each-fits .ensures) ∙ c .if1 .left)
+returns-3 c =
+    let entry = c .before .before .before .before .before .before in
+    numbers-bad (entry .args .d .now) _ (entry .args .widths .now) (entry .args .numbers .now) (sym (c .before .each-fits .ensures) ∙ c .if1 .left)
 
 pub write-numbers-spec : {M : Type 1} → statement M
 write-numbers-spec =

@@ -30,10 +30,19 @@ enum-told-2 : tie.Need-enum-told-2
 enum-told-2 c = search needs
 
 returns-3 : tie.Need-returns-3
-returns-3 c = refused-value _ _ _ (extended-refused _ _ _ _ (sym (c .before .before .before .before .before .before .before .pass-packet .ensures) ∙ c .before .before .before .before .before .end .given .1) (c .before .before .before .if1 .left) _ _ (sym (c .before .before .pass-extended .ensures) ∙ c .enum-told2 .given .1))
+returns-3 c =
+    let at-if1 = c .before .before .before in
+    let at-end = at-if1 .before .before in
+    let at-pass-packet = at-end .before .before in
+    refused-value _ _ _ (extended-refused _ _ _ _ (sym (at-pass-packet .pass-packet .ensures) ∙ at-end .end .given .1) (at-if1 .if1 .left) _ _ (sym (c .before .before .pass-extended .ensures) ∙ c .enum-told2 .given .1))
 
 returns-4 : tie.Need-returns-4
-returns-4 c = refused-value _ _ _ (extended-not-all _ _ _ _ (sym (c .before .before .before .before .before .before .before .before .before .pass-packet .ensures) ∙ c .before .before .before .before .before .before .before .end .given .1) (c .before .before .before .before .before .if1 .left) _ (sym (c .before .before .before .before .pass-extended .ensures) ∙ c .before .before .last .given .1) (c .if2 .taken))
+returns-4 c =
+    let at-pass-extended = c .before .before .before .before in
+    let at-if1 = at-pass-extended .before in
+    let at-end = at-if1 .before .before in
+    let at-pass-packet = at-end .before .before in
+    refused-value _ _ _ (extended-not-all _ _ _ _ (sym (at-pass-packet .pass-packet .ensures) ∙ at-end .end .given .1) (at-if1 .if1 .left) _ (sym (at-pass-extended .pass-extended .ensures) ∙ c .before .before .last .given .1) (c .if2 .taken))
 
 slice-aggregate-write-joined : tie.Need-slice-aggregate-write-joined
 slice-aggregate-write-joined c = search needs
@@ -48,7 +57,14 @@ same-length : tie.Need-same-length
 same-length c = search needs
 
 returns-5 : tie.Need-returns-5
-returns-5 c = c .before .before .write-joined .ensures ∙ written-value _ _ _ (flow-allowed _ _ _ _ (sym (c .before .before .before .before .before .before .before .before .before .before .before .before .before .before .before .pass-packet .ensures) ∙ c .before .before .before .before .before .before .before .before .before .before .before .before .before .end .given .1) (c .before .before .before .before .before .before .before .before .before .before .before .if1 .left) _ (sym (c .before .before .before .before .before .before .before .before .before .before .pass-extended .ensures) ∙ c .before .before .before .before .before .before .before .before .last .given .1) (c .before .before .before .before .before .before .if2 .left))
+returns-5 c =
+    let at-if2 = c .before .before .before .before .before .before in
+    let at-last = at-if2 .before .before in
+    let at-pass-extended = at-last .before .before in
+    let at-if1 = at-pass-extended .before in
+    let at-end = at-if1 .before .before in
+    let at-pass-packet = at-end .before .before in
+    c .before .before .write-joined .ensures ∙ written-value _ _ _ (flow-allowed _ _ _ _ (sym (at-pass-packet .pass-packet .ensures) ∙ at-end .end .given .1) (at-if1 .if1 .left) _ (sym (at-pass-extended .pass-extended .ensures) ∙ at-last .last .given .1) (at-if2 .if2 .left))
 
 pub write-flow-spec : {M : Type 1} → statement M
 write-flow-spec =

@@ -33,13 +33,23 @@ same-length : tie.Need-same-length
 same-length c = search needs
 
 returns-3 : tie.Need-returns-3
-returns-3 c = front-done _ _ _ _ _ (c .before .before .before .before .before .write-octets .ensures) (c .before .n .given .1) ∙ written-value _ _ _ (sample-one _ _ (sym (c .before .before .before .before .before .before .before .before .before .before .before .pass-sample .ensures) ∙ c .before .before .before .before .before .before .before .before .before .end .given .1) (c .before .before .before .before .before .before .before .if1 .left))
+returns-3 c =
+    let at-write-octets = c .before .before .before .before .before in
+    let at-if1 = at-write-octets .before .before in
+    let at-end = at-if1 .before .before in
+    let at-pass-sample = at-end .before .before in
+    front-done _ _ _ _ _ (at-write-octets .write-octets .ensures) (c .before .n .given .1) ∙ written-value _ _ _ (sample-one _ _ (sym (at-pass-sample .pass-sample .ensures) ∙ at-end .end .given .1) (at-if1 .if1 .left))
 
 same-length-2 : tie.Need-same-length-2
 same-length-2 c = search needs
 
 returns-4 : tie.Need-returns-4
-returns-4 c = front-full _ _ _ _ (c .before .before .before .before .write-octets .ensures) (c .enum-told2 .given .1) ∙ written-value _ _ _ (sample-one _ _ (sym (c .before .before .before .before .before .before .before .before .before .before .pass-sample .ensures) ∙ c .before .before .before .before .before .before .before .before .end .given .1) (c .before .before .before .before .before .before .if1 .left))
+returns-4 c =
+    let at-write-octets = c .before .before .before .before in
+    let at-if1 = at-write-octets .before .before in
+    let at-end = at-if1 .before .before in
+    let at-pass-sample = at-end .before .before in
+    front-full _ _ _ _ (at-write-octets .write-octets .ensures) (c .enum-told2 .given .1) ∙ written-value _ _ _ (sample-one _ _ (sym (at-pass-sample .pass-sample .ensures) ∙ at-end .end .given .1) (at-if1 .if1 .left))
 
 pub write-sample-spec : {M : Type 1} → statement M
 write-sample-spec =

@@ -5,9 +5,9 @@ use native.Mathlib.Omega.{arith}
 use mathlib.Core.Path.{_≡_, refl, _∙_}
 use lib.ListN.{length, length-set}
 use lib.Seq.{paste, paste-zero, paste-suc}
 use Rattle.xdr.proofs.Writing.{stored-pasted}
-use Rattle.xdr.proofs.copy.Statement.{statement}
-use Rattle.xdr.proofs.copy.Tie as tie
+use Rattle.xdr_write.proofs.copy.Statement.{statement}
+use Rattle.xdr_write.proofs.copy.Tie as tie
 
 -- The buffer is as it was, with the first i octets copied into it. The measure is how many are left.
 abbrev Inv-loop : tie.InvT-loop

@@ -1,10 +1,10 @@
 use borrow.Author.Needs.{needs}
 use native.Mathlib.Omega.{arith}
 use mathlib.Core.Path.{sym}
 use Rattle.xdr.proofs.Octets.{octets-length}
 use Rattle.xdr.proofs.Writing.{write-full-of, write-hyper-words}
-use Rattle.xdr.proofs.write_hyper.Statement.{statement}
-use Rattle.xdr.proofs.write_hyper.Tie as tie
+use Rattle.xdr_write.proofs.write_hyper.Statement.{statement}
+use Rattle.xdr_write.proofs.write_hyper.Tie as tie
 
 returns : tie.Need-returns
 returns c = sym (write-full-of _ _ 8 _ (octets-length 8 _) (omega arith))

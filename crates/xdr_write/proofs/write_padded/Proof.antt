@@ -1,9 +1,9 @@
 use borrow.Author.Needs.{needs}
 use native.Mathlib.Omega.{arith}
 use mathlib.Core.Path.{sym}
 use Rattle.xdr.proofs.Writing.{padded-length, stored-padded, write-fits-of, write-full-of}
-use Rattle.xdr.proofs.write_padded.Statement.{statement}
-use Rattle.xdr.proofs.write_padded.Tie as tie
+use Rattle.xdr_write.proofs.write_padded.Statement.{statement}
+use Rattle.xdr_write.proofs.write_padded.Tie as tie
 
 add-whole : tie.Need-add-whole
 add-whole c = search needs
@@ -40,8 +40,10 @@ same-length c = search needs
 
 returns-3 : tie.Need-returns-3
 returns-3 c =
-    let a = c .before .before .before .before .before .before .before .before .before .before .before .before .args in
-    let copied = c .before .before .before .before .before .before .copy .ensures in
+    let at-copy = c .before .before .before .before .before .before in
+    let entry = at-copy .before .before .before .before .before .before in
+    let a = entry .args in
+    let copied = at-copy .copy .ensures in
     let cleared = c .before .before .clear .ensures in
     rw (cleared, copied, stored-padded (a .d .now) (a .at) (a .xs .now) (omega arith))
     (sym (write-fits-of _ _ _ _ (padded-length (a .xs .now)) (omega arith)))

@@ -1,9 +1,9 @@
 use borrow.Author.Needs.{needs}
 use native.Mathlib.Omega.{arith}
 use mathlib.Core.Path.{sym}
 use Rattle.xdr.proofs.Writing.{write-fits, write-full}
-use Rattle.xdr.proofs.write_octets.Statement.{statement}
-use Rattle.xdr.proofs.write_octets.Tie as tie
+use Rattle.xdr_write.proofs.write_octets.Statement.{statement}
+use Rattle.xdr_write.proofs.write_octets.Tie as tie
 
 returns : tie.Need-returns
 returns c = sym (write-full _ _ _ (omega arith))

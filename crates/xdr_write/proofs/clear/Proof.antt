@@ -6,9 +6,9 @@ use mathlib.Core.Path.{_≡_, refl, sym, _∙_}
 use mathlib.Core.List.{List}
 use lib.ListN.{length, length-set, replicate, length-replicate, getD, getD-replicate}
 use lib.Seq.{paste, paste-zero, paste-suc}
 use Rattle.xdr.proofs.Writing.{stored-pasted}
-use Rattle.xdr.proofs.clear.Statement.{statement}
-use Rattle.xdr.proofs.clear.Tie as tie
+use Rattle.xdr_write.proofs.clear.Statement.{statement}
+use Rattle.xdr_write.proofs.clear.Tie as tie
 
 -- The buffer is as it was, with i zero octets copied into it. The measure is how many are left.
 abbrev Inv-loop : tie.InvT-loop

@@ -2,10 +2,10 @@ use borrow.Author.Needs.{needs}
 use native.Mathlib.Omega.{arith}
 use mathlib.Core.Path.{sym}
 use lib.ListN.{length-set}
 use Rattle.xdr.proofs.Octets.{octets-length}
 use Rattle.xdr.proofs.Writing.{stored-word, write-fits-of, write-full-of}
-use Rattle.xdr.proofs.write_word.Statement.{statement}
-use Rattle.xdr.proofs.write_word.Tie as tie
+use Rattle.xdr_write.proofs.write_word.Statement.{statement}
+use Rattle.xdr_write.proofs.write_word.Tie as tie
 
 returns : tie.Need-returns
 returns c = sym (write-full-of _ _ 4 _ (octets-length 4 _) (omega arith))
