@@ -2,14 +2,10 @@ use mathlib.Core.Path.{refl}
 use borrow.Author.Tests.{eq-eqb, ne-eqb}
 use Rattle.check_rules.proofs.are_both_zero.Statement.{statement}
 use Rattle.check_rules.proofs.are_both_zero.Tie as tie
-use Rattle.check_rules.proofs.are_both_zero.Reads as reads
-use Rattle.check_rules.proofs.are_both_zero.Lts as lts
 
--- src/lib.rt:266:9
 returns : tie.Need-returns
 returns c = rw (eq-eqb (c .before .args .mask) 0 (c .if1 .taken)) refl
 
--- src/lib.rt:262:1
 returns-2 : tie.Need-returns-2
 returns-2 c = rw (ne-eqb (c .before .args .mask) 0 (c .if1 .left)) refl
 

@@ -4,33 +4,21 @@ use mathlib.Core.Bool.{true, false}
 use Rattle.check_rules.proofs.Records.{alone-is}
 use Rattle.check_rules.proofs.check_alone.Statement.{statement}
 use Rattle.check_rules.proofs.check_alone.Tie as tie
-use Rattle.check_rules.proofs.check_alone.Reads as reads
-use Rattle.check_rules.proofs.check_alone.Lts as lts
-use Rattle.check_rules.proofs.is_bad_first.Reads as is-bad-first-reads
-use Rattle.check_rules.proofs.is_bad_target.Reads as is-bad-target-reads
-use Rattle.check_rules.proofs.is_over_limits.Reads as is-over-limits-reads
-use Rattle.check_rules.proofs.is_return_in_main.Reads as is-return-in-main-reads
-use Rattle.rules.proofs.action_of.Reads as action-of-reads
 
--- src/lib.rt:157:9
 action-of-requires : tie.Need-action-of-requires
 action-of-requires c κs = search needs
 
--- src/lib.rt:158:8
 is-over-limits-requires : tie.Need-is-over-limits-requires
 is-over-limits-requires c κs = search needs
 
--- src/lib.rt:159:9
 returns : tie.Need-returns
 returns c =
     let entry = c .before .before .before in
     alone-is (entry .args .n) (entry .args .i) (entry .args .rule) (entry .args .declared) _ true _ _ _ (c .before .before .action-of .ensures) (sym (c .if1 .taken) ∙ c .before .is-over-limits .ensures) refl refl refl
 
--- src/lib.rt:161:8
 is-bad-first-requires : tie.Need-is-bad-first-requires
 is-bad-first-requires c κs = search needs
 
--- src/lib.rt:162:9
 returns-2 : tie.Need-returns-2
 returns-2 c =
     let at-is-over-limits = c .before .before .before in
@@ -38,11 +26,9 @@ returns-2 c =
     let entry = at-action-of .before in
     alone-is (entry .args .n) (entry .args .i) (entry .args .rule) (entry .args .declared) _ false true _ _ (at-action-of .action-of .ensures) (sym (c .before .before .if1 .left) ∙ at-is-over-limits .is-over-limits .ensures) (sym (c .if2 .taken) ∙ c .before .is-bad-first .ensures) refl refl
 
--- src/lib.rt:164:8
 is-return-in-main-requires : tie.Need-is-return-in-main-requires
 is-return-in-main-requires c κs = search needs
 
--- src/lib.rt:165:9
 returns-3 : tie.Need-returns-3
 returns-3 c =
     let at-is-bad-first = c .before .before .before in
@@ -52,11 +38,9 @@ returns-3 c =
     let entry = at-action-of .before in
     alone-is (entry .args .n) (entry .args .i) (entry .args .rule) (entry .args .declared) _ false false true _ (at-action-of .action-of .ensures) (sym (at-if1 .if1 .left) ∙ at-is-over-limits .is-over-limits .ensures) (sym (c .before .before .if2 .left) ∙ at-is-bad-first .is-bad-first .ensures) (sym (c .if3 .taken) ∙ c .before .is-return-in-main .ensures) refl
 
--- src/lib.rt:167:8
 is-bad-target-requires : tie.Need-is-bad-target-requires
 is-bad-target-requires c κs = search needs
 
--- src/lib.rt:168:9
 returns-4 : tie.Need-returns-4
 returns-4 c =
     let at-is-return-in-main = c .before .before .before in
@@ -68,7 +52,6 @@ returns-4 c =
     let entry = at-action-of .before in
     alone-is (entry .args .n) (entry .args .i) (entry .args .rule) (entry .args .declared) _ false false false true (at-action-of .action-of .ensures) (sym (at-if1 .if1 .left) ∙ at-is-over-limits .is-over-limits .ensures) (sym (at-if2 .if2 .left) ∙ at-is-bad-first .is-bad-first .ensures) (sym (c .before .before .if3 .left) ∙ at-is-return-in-main .is-return-in-main .ensures) (sym (c .if4 .taken) ∙ c .before .is-bad-target .ensures)
 
--- src/lib.rt:154:1
 returns-5 : tie.Need-returns-5
 returns-5 c =
     let at-is-return-in-main = c .before .before .before in

@@ -5,30 +5,21 @@ use borrow.Author.Tests.{eq-eqb, ne-eqb}
 use Rattle.check_rules.proofs.Records.{form-is}
 use Rattle.check_rules.proofs.check_form.Statement.{statement}
 use Rattle.check_rules.proofs.check_form.Tie as tie
-use Rattle.check_rules.proofs.check_form.Reads as reads
-use Rattle.check_rules.proofs.check_form.Lts as lts
-use Rattle.check_rules.proofs.is_bad_opcode.Reads as is-bad-opcode-reads
-use Rattle.check_rules.proofs.is_known.Reads as is-known-reads
 
--- src/lib.rt:53:9
 returns : tie.Need-returns
 returns c = form-is (c .before .args .mark) (c .before .args .attribute) (c .before .args .opcode) true _ _ (sym (ap not (ne-eqb (c .before .args .mark) 21109 (c .if1 .taken)))) refl refl
 
--- src/lib.rt:55:9
 is-known-requires : tie.Need-is-known-requires
 is-known-requires c κs = search needs
 
--- src/lib.rt:56:9
 returns-2 : tie.Need-returns-2
 returns-2 c =
     let entry = c .before .before .before in
     form-is (entry .args .mark) (entry .args .attribute) (entry .args .opcode) false true _ (sym (ap not (eq-eqb (entry .args .mark) 21109 (c .before .before .if1 .left)))) (sym (c .if2 .taken) ∙ ap not (c .before .is-known .ensures)) refl
 
--- src/lib.rt:58:8
 is-bad-opcode-requires : tie.Need-is-bad-opcode-requires
 is-bad-opcode-requires c κs = search needs
 
--- src/lib.rt:59:9
 returns-3 : tie.Need-returns-3
 returns-3 c =
     let at-is-known = c .before .before .before in
@@ -36,7 +27,6 @@ returns-3 c =
     let entry = at-if1 .before in
     form-is (entry .args .mark) (entry .args .attribute) (entry .args .opcode) false false true (sym (ap not (eq-eqb (entry .args .mark) 21109 (at-if1 .if1 .left)))) (sym (c .before .before .if2 .left) ∙ ap not (at-is-known .is-known .ensures)) (sym (c .if3 .taken) ∙ c .before .is-bad-opcode .ensures)
 
--- src/lib.rt:49:1
 returns-4 : tie.Need-returns-4
 returns-4 c =
     let at-is-known = c .before .before .before in

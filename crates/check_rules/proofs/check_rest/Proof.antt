@@ -8,38 +8,25 @@ use Rattle.rules.specs.Checks.{badQueue}
 use Rattle.check_rules.proofs.Successors.{rest-is, queue-fine}
 use Rattle.check_rules.proofs.check_rest.Statement.{statement}
 use Rattle.check_rules.proofs.check_rest.Tie as tie
-use Rattle.check_rules.proofs.check_rest.Reads as reads
-use Rattle.check_rules.proofs.check_rest.Lts as lts
-use Rattle.check_rules.proofs.is_bad_queue.Reads as is-bad-queue-reads
-use Rattle.check_rules.proofs.next_differs.Reads as next-differs-reads
-use Rattle.check_rules.proofs.target_differs.Reads as target-differs-reads
-use Rattle.rules.proofs.action_of.Reads as action-of-reads
-use Rattle.rules.proofs.record_at.Reads as record-at-reads
 
--- src/lib.rt:329:9
 record-at-requires : tie.Need-record-at-requires
 record-at-requires c κs = search needs
 
--- src/lib.rt:332:21
 action-of-requires : tie.Need-action-of-requires
 action-of-requires c κs = search needs
 
--- src/lib.rt:332:8
 is-bad-queue-requires : tie.Need-is-bad-queue-requires
 is-bad-queue-requires c κs = search needs
 
--- src/lib.rt:333:9
 returns : tie.Need-returns
 returns c =
     let at-record-at = c .before .before .before .before .before in
     let entry = at-record-at .before .before in
     let a = entry .args in rest-is (recordOf (now (a .s))) (a .n) (a .i) (at-record-at .record-at .result) true _ _ (at-record-at .record-at .ensures) (sym (c .if1 .taken) ∙ c .before .is-bad-queue .ensures ∙ ap (λ (x : Action). badQueue x (at-record-at .record-at .result .declared .held)) (c .before .before .action-of .ensures)) refl refl (entry .pre)
 
--- src/lib.rt:335:8
 next-differs-requires : tie.Need-next-differs-requires
 next-differs-requires c κs = search needs
 
--- src/lib.rt:336:9
 returns-2 : tie.Need-returns-2
 returns-2 c =
     let at-is-bad-queue = c .before .before .before in
@@ -48,7 +35,6 @@ returns-2 c =
     let entry = at-record-at .before .before in
     let a = entry .args in rest-is (recordOf (now (a .s))) (a .n) (a .i) (at-record-at .record-at .result) false true _ (at-record-at .record-at .ensures) (sym (c .before .before .if1 .left) ∙ at-is-bad-queue .is-bad-queue .ensures ∙ ap (λ (x : Action). badQueue x (at-record-at .record-at .result .declared .held)) (at-action-of .action-of .ensures)) (sym (c .if2 .taken) ∙ c .before .next-differs .ensures) refl (entry .pre)
 
--- src/lib.rt:338:8
 target-differs-requires : tie.Need-target-differs-requires
 target-differs-requires c κs =
     let at-is-bad-queue = c .before .before .before in
@@ -57,7 +43,6 @@ target-differs-requires c κs =
     let entry = at-record-at .before .before in
     queue-fine (recordOf (now (entry .args .s))) (entry .args .i) (at-record-at .record-at .result) _ (at-record-at .record-at .ensures) (at-action-of .action-of .ensures) (sym (at-is-bad-queue .is-bad-queue .ensures) ∙ c .before .before .if1 .left)
 
--- src/lib.rt:339:9
 returns-3 : tie.Need-returns-3
 returns-3 c =
     let at-next-differs = c .before .before .before in
@@ -68,7 +53,6 @@ returns-3 c =
     let entry = at-record-at .before .before in
     let a = entry .args in rest-is (recordOf (now (a .s))) (a .n) (a .i) (at-record-at .record-at .result) false false true (at-record-at .record-at .ensures) (sym (at-if1 .if1 .left) ∙ at-is-bad-queue .is-bad-queue .ensures ∙ ap (λ (x : Action). badQueue x (at-record-at .record-at .result .declared .held)) (at-action-of .action-of .ensures)) (sym (c .before .before .if2 .left) ∙ at-next-differs .next-differs .ensures) (sym (c .if3 .taken) ∙ c .before .target-differs .ensures) (entry .pre)
 
--- src/lib.rt:325:1
 returns-4 : tie.Need-returns-4
 returns-4 c =
     let at-next-differs = c .before .before .before in

@@ -2,28 +2,21 @@ use borrow.Author.Needs.{needs}
 use Rattle.check_rules.proofs.Records.{differs-home, differs-depth, differs-held}
 use Rattle.check_rules.proofs.declares_otherwise.Statement.{statement}
 use Rattle.check_rules.proofs.declares_otherwise.Tie as tie
-use Rattle.check_rules.proofs.declares_otherwise.Reads as reads
-use Rattle.check_rules.proofs.declares_otherwise.Lts as lts
 
--- src/lib.rt:101:9
 returns : tie.Need-returns
 returns c = differs-home (c .before .before .args .declared) _ (c .before .before .args .depth) (c .before .before .args .held) (c .if1 .taken)
 
--- src/lib.rt:103:8
 cast-if2 : tie.Need-cast-if2
 cast-if2 c = search needs
 
--- src/lib.rt:104:9
 returns-2 : tie.Need-returns-2
 returns-2 c =
     let entry = c .before .before .before .before in
     differs-depth (entry .args .declared) _ _ (entry .args .held) (c .before .before .if1 .left) (c .if2 .taken)
 
--- src/lib.rt:106:5
 cast-result : tie.Need-cast-result
 cast-result c = search needs
 
--- src/lib.rt:97:1
 returns-3 : tie.Need-returns-3
 returns-3 c =
     let at-if1 = c .before .before .before in

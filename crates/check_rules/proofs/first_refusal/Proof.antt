@@ -17,16 +17,6 @@ use Rattle.check_rules.proofs.RuleChecks.{breaks-alone, no-return, goes
 use Rattle.check_rules.proofs.Scan.{one-more, first-broken, none-broken}
 use Rattle.check_rules.proofs.first_refusal.Statement.{statement}
 use Rattle.check_rules.proofs.first_refusal.Tie as tie
-use Rattle.check_rules.proofs.first_refusal.Reads as reads
-use Rattle.check_rules.proofs.first_refusal.Lts as lts
-use Rattle.check_rules.proofs.answer_of.Reads as answer-of-reads
-use Rattle.check_rules.proofs.check_record.Reads as check-record-reads
-use Rattle.check_rules.proofs.check_rest.Reads as check-rest-reads
-use Rattle.check_rules.proofs.comes_back_nowhere.Reads as comes-back-nowhere-reads
-use Rattle.check_rules.proofs.comes_back_otherwise.Reads as comes-back-otherwise-reads
-use Rattle.check_rules.proofs.is_return.Reads as is-return-reads
-use Rattle.rules.proofs.action_of.Reads as action-of-reads
-use Rattle.rules.proofs.record_at.Reads as record-at-reads
 
 abbrev Inv-loop : tie.InvT-loop
 Inv-loop s n i own g₀ g = (g ≤ n) × (some (comesBackNowhere s n own) g ≡ false)
@@ -46,20 +36,16 @@ Inv-rules s n i₀ found₀ i found = (i ≤ n) × (found ≡ Fine) × (firstOf 
 abbrev μ-rules : tie.MeasureT-rules
 μ-rules s n i₀ found₀ i found = n - i
 
--- src/lib.rt:375:5
 rules-holds : tie.Need-rules-holds Inv-loop μ-loop Inv-loop2 μ-loop2 Inv-rules μ-rules
 rules-holds c = (omega arith, refl, unfold firstOf in refl)
 
--- src/lib.rt:376:9
 add-i : tie.Need-add-i Inv-loop μ-loop Inv-loop2 μ-loop2 Inv-rules μ-rules
 add-i c = omega arith
 
--- src/lib.rt:377:13
 record-at-requires :
     tie.Need-record-at-requires Inv-loop μ-loop Inv-loop2 μ-loop2 Inv-rules μ-rules
 record-at-requires c κs = search needs
 
--- src/lib.rt:379:9
 check-record-requires :
     tie.Need-check-record-requires Inv-loop μ-loop Inv-loop2 μ-loop2 Inv-rules μ-rules
 check-record-requires c κs = search needs
@@ -67,38 +53,30 @@ check-record-requires c κs = search needs
 enum-told : tie.Need-enum-told Inv-loop μ-loop Inv-loop2 μ-loop2 Inv-rules μ-rules
 enum-told c = c .match .keys1
 
--- src/lib.rt:381:13
 enum-told-2 : tie.Need-enum-told-2 Inv-loop μ-loop Inv-loop2 μ-loop2 Inv-rules μ-rules
 enum-told-2 c = c .match .keys2
 
--- src/lib.rt:383:22
 action-of-requires :
     tie.Need-action-of-requires Inv-loop μ-loop Inv-loop2 μ-loop2 Inv-rules μ-rules
 action-of-requires c κs = search needs
 
--- src/lib.rt:383:12
 is-return-requires :
     tie.Need-is-return-requires Inv-loop μ-loop Inv-loop2 μ-loop2 Inv-rules μ-rules
 is-return-requires c κs = search needs
 
--- src/lib.rt:385:13
 loop-holds : tie.Need-loop-holds Inv-loop μ-loop Inv-loop2 μ-loop2 Inv-rules μ-rules
 loop-holds c = (omega arith, refl)
 
--- src/lib.rt:386:17
 add-g : tie.Need-add-g Inv-loop μ-loop Inv-loop2 μ-loop2 Inv-rules μ-rules
 add-g c = omega arith
 
--- src/lib.rt:387:20
 comes-back-nowhere-requires :
     tie.Need-comes-back-nowhere-requires Inv-loop μ-loop Inv-loop2 μ-loop2 Inv-rules μ-rules
 comes-back-nowhere-requires c κs = omega arith
 
--- src/lib.rt:385:13
 loop-less : tie.Need-loop-less Inv-loop μ-loop Inv-loop2 μ-loop2 Inv-rules μ-rules
 loop-less c = omega arith
 
--- src/lib.rt:385:13
 loop-again : tie.Need-loop-again Inv-loop μ-loop Inv-loop2 μ-loop2 Inv-rules μ-rules
 loop-again c =
     let at-loop = c .before .before .before in
@@ -106,15 +84,12 @@ loop-again c =
     let entry = at-record-at .before .before .before .before in
     (omega arith, some-more (comesBackNowhere (now (entry .args .s)) (count (now (entry .args .s))) (at-record-at .record-at .result)) (at-loop .loop .g) (at-loop .loop .inv .1) (sym (c .before .comes-back-nowhere .ensures) ∙ c .if2 .left))
 
--- src/lib.rt:393:13
 loop2-holds : tie.Need-loop2-holds Inv-loop μ-loop Inv-loop2 μ-loop2 Inv-rules μ-rules
 loop2-holds c = (omega arith, refl)
 
--- src/lib.rt:394:17
 add-h : tie.Need-add-h Inv-loop μ-loop Inv-loop2 μ-loop2 Inv-rules μ-rules
 add-h c = omega arith
 
--- src/lib.rt:395:20
 comes-back-otherwise-requires :
     tie.Need-comes-back-otherwise-requires Inv-loop μ-loop Inv-loop2 μ-loop2 Inv-rules μ-rules
 comes-back-otherwise-requires c κs =
@@ -126,11 +101,9 @@ comes-back-otherwise-requires c κs =
     let e : l .g ≡ count s = omega (arith, l .inv .0, c .before .before .loop-test .left) in
     some-false (comesBackNowhere s (count s) (at-record-at .record-at .result)) (count s) (rw e at (l .inv .1)) (c .before .loop2 .h + 1) (omega arith) (omega arith)
 
--- src/lib.rt:393:13
 loop2-less : tie.Need-loop2-less Inv-loop μ-loop Inv-loop2 μ-loop2 Inv-rules μ-rules
 loop2-less c = omega arith
 
--- src/lib.rt:393:13
 loop2-again : tie.Need-loop2-again Inv-loop μ-loop Inv-loop2 μ-loop2 Inv-rules μ-rules
 loop2-again c =
     let at-loop2 = c .before .before .before in
@@ -157,7 +130,6 @@ kept c =
     (λ w. no-return s i (own .result) (own .ensures) (ap isReturn (sym (c .before .before .action-of .ensures)) ∙ sym (c .before .is-return .ensures) ∙ w .left))
     (c .if1 .came)
 
--- src/lib.rt:401:9
 check-rest-requires :
     tie.Need-check-rest-requires Inv-loop μ-loop Inv-loop2 μ-loop2 Inv-rules μ-rules
 check-rest-requires c κs = kept c .1
@@ -165,11 +137,9 @@ check-rest-requires c κs = kept c .1
 enum-told-3 : tie.Need-enum-told-3 Inv-loop μ-loop Inv-loop2 μ-loop2 Inv-rules μ-rules
 enum-told-3 c = c .match2 .keys1
 
--- src/lib.rt:375:5
 rules-less : tie.Need-rules-less Inv-loop μ-loop Inv-loop2 μ-loop2 Inv-rules μ-rules
 rules-less c = omega arith
 
--- src/lib.rt:375:5
 rules-again : tie.Need-rules-again Inv-loop μ-loop Inv-loop2 μ-loop2 Inv-rules μ-rules
 rules-again c =
     let at-3 = c .before .before .before in
@@ -182,11 +152,9 @@ rules-again c =
     let i = at-rules .rules .i in
     (omega arith, c .enum-told3 .given .1, one-more (ruleCheck s) i (at-rules .rules .inv .2) (goes-on s (i + 1) (at-record-at .record-at .result) (at-record-at .record-at .ensures) (sym (at-check-record .check-record .ensures) ∙ at-enum-told .enum-told .given .1) (kept (at-3) .0) ∙ sym (c .before .before .check-rest .ensures) ∙ c .enum-told3 .given .1))
 
--- src/lib.rt:403:13
 enum-told-4 : tie.Need-enum-told-4 Inv-loop μ-loop Inv-loop2 μ-loop2 Inv-rules μ-rules
 enum-told-4 c = c .match2 .keys2
 
--- src/lib.rt:406:5
 answer-of-requires :
     tie.Need-answer-of-requires Inv-loop μ-loop Inv-loop2 μ-loop2 Inv-rules μ-rules
 answer-of-requires c κs = search needs
@@ -218,7 +186,6 @@ out c =
     (goes-on s (i + 1) (w .1 .result) (w .1 .ensures) (sym (w .3 .ensures) ∙ w .5 .given .1) (kept j .0) ∙ sym (w .9 .ensures) ∙ w .11 .given .1) (w .12) (w .13 ∙ w .11 .given .1)))))
     (c .rules-test .came)
 
--- src/lib.rt:369:1
 returns : tie.Need-returns Inv-loop μ-loop Inv-loop2 μ-loop2 Inv-rules μ-rules
 returns c = c .answer-of .ensures ∙ sym (out (c .before))
 

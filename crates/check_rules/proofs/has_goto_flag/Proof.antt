@@ -5,50 +5,37 @@ use Rattle.rules.specs.Opcodes.{gotoFlag}
 use Rattle.check_rules.proofs.Actions.{fails-among}
 use Rattle.check_rules.proofs.has_goto_flag.Statement.{statement}
 use Rattle.check_rules.proofs.has_goto_flag.Tie as tie
-use Rattle.check_rules.proofs.has_goto_flag.Reads as reads
-use Rattle.check_rules.proofs.has_goto_flag.Lts as lts
 
--- src/lib.rt:87:29
 enum-told : tie.Need-enum-told
 enum-told c = search needs
 
--- src/lib.rt:88:28
 enum-told-2 : tie.Need-enum-told-2
 enum-told-2 c = search needs
 
--- src/lib.rt:89:32
 enum-told-3 : tie.Need-enum-told-3
 enum-told-3 c = search needs
 
--- src/lib.rt:90:31
 enum-told-4 : tie.Need-enum-told-4
 enum-told-4 c = search needs
 
--- src/lib.rt:91:29
 enum-told-5 : tie.Need-enum-told-5
 enum-told-5 c = search needs
 
--- src/lib.rt:83:1
 returns : tie.Need-returns
 returns c = search needs
 
--- src/lib.rt:83:1
 returns-2 : tie.Need-returns-2
 returns-2 c = search needs
 
--- src/lib.rt:83:1
 returns-3 : tie.Need-returns-3
 returns-3 c = search needs
 
--- src/lib.rt:83:1
 returns-4 : tie.Need-returns-4
 returns-4 c = search needs
 
--- src/lib.rt:83:1
 returns-5 : tie.Need-returns-5
 returns-5 c = search needs
 
--- src/lib.rt:83:1
 returns-6 : tie.Need-returns-6
 returns-6 c = fails-among (0 ∷ 1 ∷ 2 ∷ 3 ∷ 4 ∷ 5 ∷ []) gotoFlag refl (c .before .args .action) (c .match .keys6)
 

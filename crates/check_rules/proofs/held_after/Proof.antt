@@ -3,46 +3,34 @@ use Rattle.check_rules.proofs.Successors.{item-there}
 use Rattle.check_rules.proofs.Actions.{held-stays}
 use Rattle.check_rules.proofs.held_after.Statement.{statement}
 use Rattle.check_rules.proofs.held_after.Tie as tie
-use Rattle.check_rules.proofs.held_after.Reads as reads
-use Rattle.check_rules.proofs.held_after.Lts as lts
 
--- src/lib.rt:255:32
 enum-told : tie.Need-enum-told
 enum-told c = search needs
 
--- src/lib.rt:255:32
 add-result : tie.Need-add-result
 add-result c = search needs
 
--- src/lib.rt:256:31
 enum-told-2 : tie.Need-enum-told-2
 enum-told-2 c = search needs
 
--- src/lib.rt:256:31
 add-result-2 : tie.Need-add-result-2
 add-result-2 c = search needs
 
--- src/lib.rt:257:29
 enum-told-3 : tie.Need-enum-told-3
 enum-told-3 c = search needs
 
--- src/lib.rt:257:29
 sub-result : tie.Need-sub-result
 sub-result c = item-there (c .before .before .args .action) _ (c .before .before .args .held) (c .enum-told3 .given .1) (c .before .before .pre)
 
--- src/lib.rt:249:1
 returns : tie.Need-returns
 returns c = rw (c .enum-told .given .1)
 
--- src/lib.rt:249:1
 returns-2 : tie.Need-returns-2
 returns-2 c = rw (c .enum-told2 .given .1)
 
--- src/lib.rt:249:1
 returns-3 : tie.Need-returns-3
 returns-3 c = rw (c .enum-told3 .given .1)
 
--- src/lib.rt:249:1
 returns-4 : tie.Need-returns-4
 returns-4 c = held-stays (c .before .args .held) (c .before .args .action) (c .match .keys4)
 

@@ -7,25 +7,16 @@ use Rattle.rules.specs.Records.{count, recordOf}
 use Rattle.check_rules.proofs.Gosubs.{aims-is}
 use Rattle.check_rules.proofs.is_aimed.Statement.{statement}
 use Rattle.check_rules.proofs.is_aimed.Tie as tie
-use Rattle.check_rules.proofs.is_aimed.Reads as reads
-use Rattle.check_rules.proofs.is_aimed.Lts as lts
-use Rattle.check_rules.proofs.is_gosub.Reads as is-gosub-reads
-use Rattle.rules.proofs.action_of.Reads as action-of-reads
-use Rattle.rules.proofs.record_at.Reads as record-at-reads
 
--- src/lib.rt:192:9
 record-at-requires : tie.Need-record-at-requires
 record-at-requires c κs = search needs
 
--- src/lib.rt:194:17
 action-of-requires : tie.Need-action-of-requires
 action-of-requires c κs = search needs
 
--- src/lib.rt:194:8
 is-gosub-requires : tie.Need-is-gosub-requires
 is-gosub-requires c κs = search needs
 
--- src/lib.rt:195:9
 returns : tie.Need-returns
 returns c =
     let at-action-of = c .before .before .before in
@@ -33,7 +24,6 @@ returns c =
     let entry = at-record-at .before .before in
     let s = now (entry .args .s) in aims-is (recordOf s) (count s) (entry .args .home) (entry .args .g) (at-record-at .record-at .result) true (at-record-at .record-at .ensures) (sym (c .before .if1 .taken) ∙ c .before .before .is-gosub .ensures ∙ ap isGosub (at-action-of .action-of .ensures))
 
--- src/lib.rt:189:1
 returns-2 : tie.Need-returns-2
 returns-2 c =
     let at-record-at = c .before .before .before .before in

@@ -3,19 +3,13 @@ use mathlib.Core.Path.{refl}
 use borrow.Author.Tests.{eq-eqb, ne-eqb}
 use Rattle.check_rules.proofs.is_bad_first.Statement.{statement}
 use Rattle.check_rules.proofs.is_bad_first.Tie as tie
-use Rattle.check_rules.proofs.is_bad_first.Reads as reads
-use Rattle.check_rules.proofs.is_bad_first.Lts as lts
-use Rattle.check_rules.proofs.declares_otherwise.Reads as declares-otherwise-reads
 
--- src/lib.rt:123:9
 declares-otherwise-requires : tie.Need-declares-otherwise-requires
 declares-otherwise-requires c κs = search needs
 
--- src/lib.rt:123:9
 returns : tie.Need-returns
 returns c = rw (eq-eqb (c .before .before .args .i) 1 (c .before .if1 .taken)) (c .declares-otherwise .ensures)
 
--- src/lib.rt:119:1
 returns-2 : tie.Need-returns-2
 returns-2 c = rw (ne-eqb (c .before .args .i) 1 (c .if1 .left)) refl
 

@@ -3,18 +3,13 @@ use mathlib.Core.Path.{refl}
 use borrow.Author.Tests.{eq-eqb, ne-eqb}
 use Rattle.check_rules.proofs.is_bad_length.Statement.{statement}
 use Rattle.check_rules.proofs.is_bad_length.Tie as tie
-use Rattle.check_rules.proofs.is_bad_length.Reads as reads
-use Rattle.check_rules.proofs.is_bad_length.Lts as lts
 
--- src/lib.rt:350:9
 returns : tie.Need-returns
 returns c = rw (eq-eqb (c .before .args .len) 0 (c .if1 .taken)) refl
 
--- src/lib.rt:353:9
 returns-2 : tie.Need-returns-2
 returns-2 c = rw (ne-eqb (c .before .before .args .len) 0 (c .before .if1 .left), ne-eqb (c .before .before .args .len % 16) 0 (c .if2 .taken)) refl
 
--- src/lib.rt:346:1
 returns-3 : tie.Need-returns-3
 returns-3 c = rw (ne-eqb (c .before .before .args .len) 0 (c .before .if1 .left), eq-eqb (c .before .before .args .len % 16) 0 (c .if2 .left)) refl
 

@@ -1,22 +1,16 @@
 use Rattle.check_rules.proofs.Records.{opcode-else}
 use Rattle.check_rules.proofs.is_bad_opcode.Statement.{statement}
 use Rattle.check_rules.proofs.is_bad_opcode.Tie as tie
-use Rattle.check_rules.proofs.is_bad_opcode.Reads as reads
-use Rattle.check_rules.proofs.is_bad_opcode.Lts as lts
 
--- src/lib.rt:37:1
 returns : tie.Need-returns
 returns c = rw (c .match .keys1)
 
--- src/lib.rt:37:1
 returns-2 : tie.Need-returns-2
 returns-2 c = rw (c .match .keys2)
 
--- src/lib.rt:37:1
 returns-3 : tie.Need-returns-3
 returns-3 c = rw (c .match .keys3)
 
--- src/lib.rt:37:1
 returns-4 : tie.Need-returns-4
 returns-4 c = opcode-else (c .before .args .opcode) (c .match .rest .0 .0 .1) (c .match .rest .0 .1) (c .match .rest .1)
 

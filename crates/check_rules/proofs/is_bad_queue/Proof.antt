@@ -5,50 +5,37 @@ use Rattle.rules.specs.Checks.{badQueue}
 use Rattle.check_rules.proofs.Actions.{fails-among}
 use Rattle.check_rules.proofs.is_bad_queue.Statement.{statement}
 use Rattle.check_rules.proofs.is_bad_queue.Tie as tie
-use Rattle.check_rules.proofs.is_bad_queue.Reads as reads
-use Rattle.check_rules.proofs.is_bad_queue.Lts as lts
 
--- src/lib.rt:239:26
 enum-told : tie.Need-enum-told
 enum-told c = search needs
 
--- src/lib.rt:240:29
 enum-told-2 : tie.Need-enum-told-2
 enum-told-2 c = search needs
 
--- src/lib.rt:241:32
 enum-told-3 : tie.Need-enum-told-3
 enum-told-3 c = search needs
 
--- src/lib.rt:242:31
 enum-told-4 : tie.Need-enum-told-4
 enum-told-4 c = search needs
 
--- src/lib.rt:243:29
 enum-told-5 : tie.Need-enum-told-5
 enum-told-5 c = search needs
 
--- src/lib.rt:235:1
 returns : tie.Need-returns
 returns c = rw (c .enum-told .given .1)
 
--- src/lib.rt:235:1
 returns-2 : tie.Need-returns-2
 returns-2 c = rw (c .enum-told2 .given .1)
 
--- src/lib.rt:235:1
 returns-3 : tie.Need-returns-3
 returns-3 c = rw (c .enum-told3 .given .1)
 
--- src/lib.rt:235:1
 returns-4 : tie.Need-returns-4
 returns-4 c = rw (c .enum-told4 .given .1)
 
--- src/lib.rt:235:1
 returns-5 : tie.Need-returns-5
 returns-5 c = rw (c .enum-told5 .given .1)
 
--- src/lib.rt:235:1
 returns-6 : tie.Need-returns-6
 returns-6 c = fails-among (0 ∷ 1 ∷ 2 ∷ 5 ∷ 6 ∷ 7 ∷ []) (λ a. badQueue a (c .before .args .held)) refl (c .before .args .action) (c .match .keys6)
 

@@ -4,39 +4,29 @@ use mathlib.Core.Path.{sym, _∙_}
 use Rattle.check_rules.proofs.Records.{target-behind, target-ahead, target-of-return}
 use Rattle.check_rules.proofs.is_bad_target.Statement.{statement}
 use Rattle.check_rules.proofs.is_bad_target.Tie as tie
-use Rattle.check_rules.proofs.is_bad_target.Reads as reads
-use Rattle.check_rules.proofs.is_bad_target.Lts as lts
-use Rattle.check_rules.proofs.has_goto_flag.Reads as has-goto-flag-reads
-use Rattle.check_rules.proofs.is_return.Reads as is-return-reads
 
--- src/lib.rt:141:8
 has-goto-flag-requires : tie.Need-has-goto-flag-requires
 has-goto-flag-requires c κs = search needs
 
--- src/lib.rt:143:13
 returns : tie.Need-returns
 returns c =
     let entry = c .before .before .before in
     target-behind (entry .args .action) _ (entry .args .i) (entry .args .parameter) (sym (c .before .before .has-goto-flag .ensures) ∙ c .before .if1 .taken) (omega (arith, c .if2 .taken))
 
--- src/lib.rt:145:9
 returns-2 : tie.Need-returns-2
 returns-2 c =
     let entry = c .before .before .before in
     target-ahead (entry .args .action) (entry .args .n) (entry .args .i) (entry .args .parameter) (sym (c .before .before .has-goto-flag .ensures) ∙ c .before .if1 .taken) (omega (arith, c .if2 .left))
 
--- src/lib.rt:147:8
 is-return-requires : tie.Need-is-return-requires
 is-return-requires c κs = search needs
 
--- src/lib.rt:148:9
 returns-3 : tie.Need-returns-3
 returns-3 c =
     let at-has-goto-flag = c .before .before .before in
     let entry = at-has-goto-flag .before in
     target-of-return (entry .args .action) _ _ (entry .args .parameter) (sym (at-has-goto-flag .has-goto-flag .ensures) ∙ c .before .before .if1 .left) (sym (c .before .is-return .ensures) ∙ c .if3 .taken)
 
--- src/lib.rt:138:1
 returns-4 : tie.Need-returns-4
 returns-4 c = search needs
 

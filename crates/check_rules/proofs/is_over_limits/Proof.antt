@@ -3,14 +3,10 @@ use mathlib.Core.Path.{refl}
 use borrow.Author.Tests.{lt-ltb, le-ltb}
 use Rattle.check_rules.proofs.is_over_limits.Statement.{statement}
 use Rattle.check_rules.proofs.is_over_limits.Tie as tie
-use Rattle.check_rules.proofs.is_over_limits.Reads as reads
-use Rattle.check_rules.proofs.is_over_limits.Lts as lts
 
--- src/lib.rt:113:9
 returns : tie.Need-returns
 returns c = rw (lt-ltb 4 (c .before .before .args .declared .depth) (omega (arith, c .if1 .taken))) refl
 
--- src/lib.rt:109:1
 returns-2 : tie.Need-returns-2
 returns-2 c = rw (le-ltb 4 (c .before .before .before .args .declared .depth) (omega (arith, c .before .if1 .left))) refl
 

@@ -5,18 +5,13 @@ use Rattle.rules.specs.Opcodes.{isReturn}
 use Rattle.check_rules.proofs.Actions.{fails-among}
 use Rattle.check_rules.proofs.is_return.Statement.{statement}
 use Rattle.check_rules.proofs.is_return.Tie as tie
-use Rattle.check_rules.proofs.is_return.Reads as reads
-use Rattle.check_rules.proofs.is_return.Lts as lts
 
--- src/lib.rt:68:27
 enum-told : tie.Need-enum-told
 enum-told c = search needs
 
--- src/lib.rt:64:1
 returns : tie.Need-returns
 returns c = search needs
 
--- src/lib.rt:64:1
 returns-2 : tie.Need-returns-2
 returns-2 c = fails-among (0 ∷ 1 ∷ 2 ∷ 3 ∷ 4 ∷ 6 ∷ 7 ∷ 8 ∷ 9 ∷ 10 ∷ []) isReturn refl (c .before .args .action) (c .match .keys2)
 

@@ -6,25 +6,16 @@ use Rattle.rules.specs.Records.{recordOf}
 use Rattle.check_rules.proofs.Successors.{no-next, next-is}
 use Rattle.check_rules.proofs.next_differs.Statement.{statement}
 use Rattle.check_rules.proofs.next_differs.Tie as tie
-use Rattle.check_rules.proofs.next_differs.Reads as reads
-use Rattle.check_rules.proofs.next_differs.Lts as lts
-use Rattle.check_rules.proofs.are_both_zero.Reads as are-both-zero-reads
-use Rattle.check_rules.proofs.declares_otherwise.Reads as declares-otherwise-reads
-use Rattle.rules.proofs.record_at.Reads as record-at-reads
 
--- src/lib.rt:276:9
 returns : tie.Need-returns
 returns c = no-next (recordOf (now (c .before .before .args .s))) (c .before .before .args .n) (c .before .before .args .i) (c .if1 .taken)
 
--- src/lib.rt:278:9
 record-at-requires : tie.Need-record-at-requires
 record-at-requires c κs = search needs
 
--- src/lib.rt:280:8
 are-both-zero-requires : tie.Need-are-both-zero-requires
 are-both-zero-requires c κs = search needs
 
--- src/lib.rt:281:9
 returns-2 : tie.Need-returns-2
 returns-2 c =
     let at-record-at = c .before .before .before in
@@ -32,27 +23,21 @@ returns-2 c =
     let entry = at-if1 .before .before in
     let a = entry .args in next-is (recordOf (now (a .s))) (a .n) (a .i) (at-record-at .record-at .result) _ true (at-if1 .if1 .left) (at-record-at .record-at .ensures) (sym (c .if2 .taken) ∙ c .before .are-both-zero .ensures) refl
 
--- src/lib.rt:283:36
 add-record-at : tie.Need-add-record-at
 add-record-at c = search needs
 
--- src/lib.rt:283:9
 record-at-requires-2 : tie.Need-record-at-requires-2
 record-at-requires-2 c κs = search needs
 
--- src/lib.rt:289:9
 cast-declares-otherwise : tie.Need-cast-declares-otherwise
 cast-declares-otherwise c = search needs
 
--- src/lib.rt:290:9
 cast-declares-otherwise-2 : tie.Need-cast-declares-otherwise-2
 cast-declares-otherwise-2 c = search needs
 
--- src/lib.rt:286:5
 declares-otherwise-requires : tie.Need-declares-otherwise-requires
 declares-otherwise-requires c κs = search needs
 
--- src/lib.rt:272:1
 returns-3 : tie.Need-returns-3
 returns-3 c =
     let at-record-at2 = c .before .before .before .before .before in

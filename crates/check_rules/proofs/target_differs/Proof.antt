@@ -8,52 +8,34 @@ use Rattle.rules.specs.Checks.{differs, heldAfter}
 use Rattle.check_rules.proofs.Successors.{held-fine, no-target, gosub-target, other-target}
 use Rattle.check_rules.proofs.target_differs.Statement.{statement}
 use Rattle.check_rules.proofs.target_differs.Tie as tie
-use Rattle.check_rules.proofs.target_differs.Reads as reads
-use Rattle.check_rules.proofs.target_differs.Lts as lts
-use Rattle.check_rules.proofs.declares_otherwise.Reads as declares-otherwise-reads
-use Rattle.check_rules.proofs.has_goto_flag.Reads as has-goto-flag-reads
-use Rattle.check_rules.proofs.held_after.Reads as held-after-reads
-use Rattle.check_rules.proofs.is_gosub.Reads as is-gosub-reads
-use Rattle.rules.proofs.action_of.Reads as action-of-reads
-use Rattle.rules.proofs.record_at.Reads as record-at-reads
 
--- src/lib.rt:299:9
 record-at-requires : tie.Need-record-at-requires
 record-at-requires c κs = search needs
 
--- src/lib.rt:302:9
 action-of-requires : tie.Need-action-of-requires
 action-of-requires c κs = search needs
 
--- src/lib.rt:303:8
 has-goto-flag-requires : tie.Need-has-goto-flag-requires
 has-goto-flag-requires c κs = search needs
 
--- src/lib.rt:304:13
 record-at-requires-2 : tie.Need-record-at-requires-2
 record-at-requires-2 c κs = search needs
 
--- src/lib.rt:306:12
 is-gosub-requires : tie.Need-is-gosub-requires
 is-gosub-requires c κs = search needs
 
--- src/lib.rt:310:17
 cast-declares-otherwise : tie.Need-cast-declares-otherwise
 cast-declares-otherwise c = search needs
 
--- src/lib.rt:310:17
 add-declares-otherwise : tie.Need-add-declares-otherwise
 add-declares-otherwise c = search needs
 
--- src/lib.rt:311:17
 cast-declares-otherwise-2 : tie.Need-cast-declares-otherwise-2
 cast-declares-otherwise-2 c = search needs
 
--- src/lib.rt:307:13
 declares-otherwise-requires : tie.Need-declares-otherwise-requires
 declares-otherwise-requires c κs = search needs
 
--- src/lib.rt:307:13
 returns : tie.Need-returns
 returns c =
     let at-if2 = c .before .before .before in
@@ -66,11 +48,9 @@ returns c =
     let entry = at-record-at .before .before in
     let a = entry .args in c .declares-otherwise .ensures ∙ gosub-target (recordOf (now (a .s))) (count (now (a .s))) (a .i) (at-record-at .record-at .result) (at-record-at2 .record-at2 .result) (at-record-at .record-at .ensures) (at-record-at2 .record-at2 .ensures) (ap gotoFlag (sym (at-action-of .action-of .ensures)) ∙ sym (at-has-goto-flag .has-goto-flag .ensures) ∙ at-if1 .if1 .taken) (ap isGosub (sym (at-action-of .action-of .ensures)) ∙ sym (at-is-gosub .is-gosub .ensures) ∙ at-if2 .if2 .taken)
 
--- src/lib.rt:317:13
 cast-declares-otherwise-3 : tie.Need-cast-declares-otherwise-3
 cast-declares-otherwise-3 c = search needs
 
--- src/lib.rt:318:13
 held-after-requires : tie.Need-held-after-requires
 held-after-requires c κs =
     let at-action-of = c .before .before .before .before .before .before .before in
@@ -78,11 +58,9 @@ held-after-requires c κs =
     let entry = at-record-at .before .before in
     held-fine (recordOf (now (entry .args .s))) (entry .args .i) (at-record-at .record-at .result) _ (at-record-at .record-at .ensures) (at-action-of .action-of .ensures) (entry .pre)
 
--- src/lib.rt:314:9
 declares-otherwise-requires-2 : tie.Need-declares-otherwise-requires-2
 declares-otherwise-requires-2 c κs = search needs
 
--- src/lib.rt:314:9
 returns-2 : tie.Need-returns-2
 returns-2 c =
     let at-if2 = c .before .before .before in
@@ -95,7 +73,6 @@ returns-2 c =
     let entry = at-record-at .before .before in
     let a = entry .args in c .declares-otherwise2 .ensures ∙ ap (differs (at-record-at2 .record-at2 .result .declared) (at-record-at .record-at .result .declared .home) (at-record-at .record-at .result .declared .depth)) (c .before .held-after .ensures ∙ ap (λ (x : Action). heldAfter x (at-record-at .record-at .result .declared .held)) (at-action-of .action-of .ensures)) ∙ other-target (recordOf (now (a .s))) (count (now (a .s))) (a .i) (at-record-at .record-at .result) (at-record-at2 .record-at2 .result) (at-record-at .record-at .ensures) (at-record-at2 .record-at2 .ensures) (ap gotoFlag (sym (at-action-of .action-of .ensures)) ∙ sym (at-has-goto-flag .has-goto-flag .ensures) ∙ at-if1 .if1 .taken) (ap isGosub (sym (at-action-of .action-of .ensures)) ∙ sym (at-is-gosub .is-gosub .ensures) ∙ at-if2 .if2 .left)
 
--- src/lib.rt:295:1
 returns-3 : tie.Need-returns-3
 returns-3 c =
     let at-record-at = c .before .before .before .before .before in

@@ -8,30 +8,19 @@ use Rattle.engine.specs.Meters.{queuesPacket}
 use borrow.Author.Needs.{needs}
 use Rattle.engine.proofs.item_of.Statement.{statement}
 use Rattle.engine.proofs.item_of.Tie as tie
-use Rattle.engine.proofs.item_of.Reads as reads
-use Rattle.engine.proofs.item_of.Lts as lts
-use Rattle.engine.proofs.queues_packet.Reads as queues-packet-reads
-use Rattle.packet.proofs.attribute.Reads as attribute-reads
-use Rattle.rules.proofs.action_of.Reads as action-of-reads
-use Rattle.rules.proofs.record_at.Reads as record-at-reads
 
--- src/lib.rt:309:9
 record-at-requires : tie.Need-record-at-requires
 record-at-requires c κs = search needs
 
--- src/lib.rt:311:9
 attribute-requires : tie.Need-attribute-requires
 attribute-requires c κs = search needs
 
--- src/lib.rt:312:9
 action-of-requires : tie.Need-action-of-requires
 action-of-requires c κs = search needs
 
--- src/lib.rt:313:8
 queues-packet-requires : tie.Need-queues-packet-requires
 queues-packet-requires c κs = search needs
 
--- src/lib.rt:314:9
 returns : tie.Need-returns
 returns c =
     let at-action-of = c .before .before .before in
@@ -40,7 +29,6 @@ returns c =
     let entry = at-record-at .before .before in
     by-packet (ruleOf (now (entry .args .s))) (attribute (entry .args .a)) (entry .args .i) _ (ap (λ (x : RuleRecord). x .rule) (at-record-at .record-at .ensures)) _ (at-attribute .attribute .ensures) (search needs) (sym (ap queuesPacket (at-action-of .action-of .ensures)) ∙ sym (c .before .before .queues-packet .ensures) ∙ c .before .if1 .taken)
 
--- src/lib.rt:306:1
 returns-2 : tie.Need-returns-2
 returns-2 c =
     let at-record-at = c .before .before .before .before .before in

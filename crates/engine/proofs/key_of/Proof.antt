@@ -12,12 +12,6 @@ use Rattle.engine.specs.declared.FlowKey.{FlowKey}
 use borrow.Author.Needs.{needs}
 use Rattle.engine.proofs.key_of.Statement.{statement}
 use Rattle.engine.proofs.key_of.Tie as tie
-use Rattle.engine.proofs.key_of.Reads as reads
-use Rattle.engine.proofs.key_of.Lts as lts
-use Rattle.engine.proofs.item_of.Reads as item-of-reads
-use Rattle.engine.proofs.no_key.Reads as no-key-reads
-use Rattle.engine.proofs.put_item.Reads as put-item-reads
-use Rattle.engine.proofs.wide.Reads as wide-reads
 
 abbrev Inv-loop : tie.InvT-loop
 Inv-loop s a m left₀ k₀ j₀ left k j = (j + left ≡ m .held) × (k ≡ keyOf (map (itemOf (ruleOf s) (attribute a)) (stackOf (m .queue) j)))
@@ -25,54 +19,42 @@ Inv-loop s a m left₀ k₀ j₀ left k j = (j + left ≡ m .held) × (k ≡ key
 abbrev μ-loop : tie.MeasureT-loop
 μ-loop s a m left₀ k₀ j₀ left k j = left
 
--- src/lib.rt:358:9
 no-key-requires : tie.Need-no-key-requires Inv-loop μ-loop
 no-key-requires c κs = search needs
 
--- src/lib.rt:360:5
 loop-holds : tie.Need-loop-holds Inv-loop μ-loop
 loop-holds c = (omega arith, c .no-key .ensures ∙ sym (key-none (itemOf (ruleOf (now (c .before .before .args .s))) (attribute (c .before .before .args .a))) (c .before .before .args .t3 .queue)))
 
--- src/lib.rt:361:9
 sub-left : tie.Need-sub-left Inv-loop μ-loop
 sub-left c = search needs
 
--- src/lib.rt:362:22
 mul-wide : tie.Need-mul-wide Inv-loop μ-loop
 mul-wide c = omega arith
 
--- src/lib.rt:362:22
 element-copy-out-wide : tie.Need-element-copy-out-wide Inv-loop μ-loop
 element-copy-out-wide c = search needs
 
--- src/lib.rt:362:13
 wide-requires : tie.Need-wide-requires Inv-loop μ-loop
 wide-requires c κs = search needs
 
--- src/lib.rt:363:13
 item-of-requires : tie.Need-item-of-requires Inv-loop μ-loop
 item-of-requires c κs = search needs
 
--- src/lib.rt:364:9
 put-item-requires : tie.Need-put-item-requires Inv-loop μ-loop
 put-item-requires c κs = search needs
 
--- src/lib.rt:365:9
 add-j : tie.Need-add-j Inv-loop μ-loop
 add-j c = omega arith
 
--- src/lib.rt:360:5
 loop-less : tie.Need-loop-less Inv-loop μ-loop
 loop-less c = omega arith
 
--- src/lib.rt:360:5
 loop-again : tie.Need-loop-again Inv-loop μ-loop
 loop-again c =
     let at-loop = c .before .before .before .before .before in
     let entry = at-loop .before .before .before in
     (omega arith, c .put-item .ensures ∙ ap (λ (k : FlowKey). put k (c .before .item-of .result)) (at-loop .loop .inv .1) ∙ ap (put (keyOf (map (itemOf (ruleOf (now (entry .args .s))) (attribute (entry .args .a))) (stackOf (entry .args .t3 .queue) (at-loop .loop .j))))) (c .before .item-of .ensures ∙ ap (itemOf (ruleOf (now (entry .args .s))) (attribute (entry .args .a))) (c .before .before .wide .ensures .0)) ∙ sym (key-more (itemOf (ruleOf (now (entry .args .s))) (attribute (entry .args .a))) (entry .args .t3 .queue) (at-loop .loop .j)))
 
--- src/lib.rt:353:1
 returns : tie.Need-returns Inv-loop μ-loop
 returns c = let e : c .before .loop .j ≡ c .before .before .before .before .args .t3 .held = omega arith in rw e at (c .before .loop .inv .1)
 

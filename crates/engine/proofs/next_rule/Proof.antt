@@ -3,27 +3,19 @@ use mathlib.Core.Path.{_∙_}
 use borrow.Author.Needs.{needs}
 use Rattle.engine.proofs.next_rule.Statement.{statement}
 use Rattle.engine.proofs.next_rule.Tie as tie
-use Rattle.engine.proofs.next_rule.Reads as reads
-use Rattle.engine.proofs.next_rule.Lts as lts
-use Rattle.engine.proofs.finishes.Reads as finishes-reads
 
--- src/lib.rt:232:23
 add-next : tie.Need-add-next
 add-next c = search needs
 
--- src/lib.rt:234:22
 add-next-2 : tie.Need-add-next-2
 add-next-2 c = search needs
 
--- src/lib.rt:235:9
 returns : tie.Need-returns
 returns c = goes-next (c .before .before .args .n) (c .before .before .args .m) (c .before .if1 .taken)
 
--- src/lib.rt:237:5
 finishes-requires : tie.Need-finishes-requires
 finishes-requires c κs = search needs
 
--- src/lib.rt:225:1
 returns-2 : tie.Need-returns-2
 returns-2 c = c .finishes .ensures ∙ ends-last (c .before .before .args .n) (c .before .before .args .m) (c .before .if1 .left)
 

@@ -2,40 +2,30 @@ use Rattle.engine.proofs.Keys.{put-null, put-some, put-out}
 use borrow.Author.Needs.{needs}
 use Rattle.engine.proofs.put_item.Statement.{statement}
 use Rattle.engine.proofs.put_item.Tie as tie
-use Rattle.engine.proofs.put_item.Reads as reads
-use Rattle.engine.proofs.put_item.Lts as lts
 
--- src/lib.rt:340:13
 cast-a : tie.Need-cast-a
 cast-a c = search needs
 
--- src/lib.rt:342:9
 returns : tie.Need-returns
 returns c = put-null (c .before .before .args .k) (c .before .before .args .x) (c .if1 .taken)
 
--- src/lib.rt:346:9
 mul-r : tie.Need-mul-r
 mul-r c = search needs
 
--- src/lib.rt:346:9
 element-write-r : tie.Need-element-write-r
 element-write-r c = search needs
 
--- src/lib.rt:347:9
 mul-r-2 : tie.Need-mul-r-2
 mul-r-2 c = search needs
 
--- src/lib.rt:347:9
 element-write-r-2 : tie.Need-element-write-r-2
 element-write-r-2 c = search needs
 
--- src/lib.rt:337:1
 returns-2 : tie.Need-returns-2
 returns-2 c =
     let entry = c .before .before .before in
     put-some (entry .args .k) (entry .args .x) (c .before .if1 .left)
 
--- src/lib.rt:337:1
 returns-3 : tie.Need-returns-3
 returns-3 c =
     let entry = c .before .before .before in

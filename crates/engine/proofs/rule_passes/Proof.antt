@@ -2,14 +2,10 @@ use Rattle.engine.proofs.Meters.{null-test, mask-test}
 use borrow.Author.Needs.{needs}
 use Rattle.engine.proofs.rule_passes.Statement.{statement}
 use Rattle.engine.proofs.rule_passes.Tie as tie
-use Rattle.engine.proofs.rule_passes.Reads as reads
-use Rattle.engine.proofs.rule_passes.Lts as lts
 
--- src/lib.rt:209:9
 returns : tie.Need-returns
 returns c = null-test (c .before .before .args .r) (c .before .before .args .v) (c .if1 .taken)
 
--- src/lib.rt:205:1
 returns-2 : tie.Need-returns-2
 returns-2 c =
     let entry = c .before .before .before .before in

@@ -4,40 +4,28 @@ use mathlib.Core.Path.{sym, _∙_}
 use borrow.Author.Needs.{needs}
 use Rattle.engine.proofs.run.Statement.{statement}
 use Rattle.engine.proofs.run.Tie as tie
-use Rattle.engine.proofs.run.Reads as reads
-use Rattle.engine.proofs.run.Lts as lts
-use Rattle.check_rules.proofs.check.Reads as check-reads
-use Rattle.engine.proofs.refused.Reads as refused-reads
-use Rattle.engine.proofs.run_accepted.Reads as run-accepted-reads
 
--- src/lib.rt:430:11
 check-requires : tie.Need-check-requires
 check-requires c κs = search needs
 
--- src/lib.rt:431:34
 enum-told : tie.Need-enum-told
 enum-told c = search needs
 
--- src/lib.rt:431:34
 run-accepted-requires : tie.Need-run-accepted-requires
 run-accepted-requires c κs = sym (c .before .before .check .ensures) ∙ c .enum-told .given .1
 
--- src/lib.rt:432:30
 enum-known-why : tie.Need-enum-known-why
 enum-known-why c = search needs
 
--- src/lib.rt:432:41
 refused-requires : tie.Need-refused-requires
 refused-requires c κs = search needs
 
--- src/lib.rt:427:1
 returns : tie.Need-returns
 returns c =
     let at-check = c .before .before .before in
     let entry = at-check .before .before .before in
     c .run-accepted .ensures ∙ accepted-result (now (entry .args .s)) (now (entry .args .x)) (sym (at-check .check .ensures) ∙ c .before .enum-told .given .1)
 
--- src/lib.rt:427:1
 returns-2 : tie.Need-returns-2
 returns-2 c =
     let at-check = c .before .before .before .before in

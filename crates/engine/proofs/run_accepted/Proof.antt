@@ -5,40 +5,28 @@ use mathlib.Core.Path.{sym, _∙_, ap}
 use borrow.Author.Needs.{needs}
 use Rattle.engine.proofs.run_accepted.Statement.{statement}
 use Rattle.engine.proofs.run_accepted.Tie as tie
-use Rattle.engine.proofs.run_accepted.Reads as reads
-use Rattle.engine.proofs.run_accepted.Lts as lts
-use Rattle.engine.proofs.refused.Reads as refused-reads
-use Rattle.engine.proofs.run_flow.Reads as run-flow-reads
-use Rattle.reader.proofs.sample.read_sample.Reads as read-sample-reads
 
--- src/lib.rt:413:41
 read-sample-requires : tie.Need-read-sample-requires
 read-sample-requires c κs = search needs
 
--- src/lib.rt:413:27
 enum-known-found : tie.Need-enum-known-found
 enum-known-found c = search needs
 
--- src/lib.rt:414:24
 enum-told : tie.Need-enum-told
 enum-told c = search needs
 
--- src/lib.rt:414:9
 refused-requires : tie.Need-refused-requires
 refused-requires c κs = search needs
 
--- src/lib.rt:414:9
 returns : tie.Need-returns
 returns c =
     let at-read-sample = c .before .before .before in
     let entry = at-read-sample .before .before .before in
     c .refused .ensures ∙ ap (ofSample (now (entry .args .s)) (now (entry .args .x))) (not-a-sample (now (entry .args .x)) _ _ (sym (at-read-sample .read-sample .ensures) ∙ c .before .enum-told .given .1))
 
--- src/lib.rt:417:9
 refused-requires-2 : tie.Need-refused-requires-2
 refused-requires-2 c κs = search needs
 
--- src/lib.rt:417:9
 returns-2 : tie.Need-returns-2
 returns-2 c =
     let at-found = c .before .before .before in
@@ -46,23 +34,18 @@ returns-2 c =
     let entry = at-read-sample .before .before .before in
     c .refused2 .ensures ∙ ap (ofSample (now (entry .args .s)) (now (entry .args .x))) (not-all (now (entry .args .x)) _ _ (sym (at-read-sample .read-sample .ensures) ∙ at-found .found .given .1) (c .before .if1 .taken))
 
--- src/lib.rt:421:28
 enum-known-values : tie.Need-enum-known-values
 enum-known-values c = search needs
 
--- src/lib.rt:421:34
 run-flow-requires : tie.Need-run-flow-requires
 run-flow-requires c κs = search needs
 
--- src/lib.rt:422:46
 enum-told-2 : tie.Need-enum-told-2
 enum-told-2 c = search needs
 
--- src/lib.rt:422:38
 refused-requires-3 : tie.Need-refused-requires-3
 refused-requires-3 c κs = search needs
 
--- src/lib.rt:409:1
 returns-3 : tie.Need-returns-3
 returns-3 c =
     let at-if1 = c .before .before .before .before in
@@ -71,7 +54,6 @@ returns-3 c =
     let entry = at-read-sample .before .before .before in
     c .run-flow .ensures ∙ ap (ofSample (now (entry .args .s)) (now (entry .args .x))) (a-flow (now (entry .args .x)) _ _ (sym (at-read-sample .read-sample .ensures) ∙ at-found .found .given .1) (at-if1 .if1 .left) _ (c .before .before .values .given .1))
 
--- src/lib.rt:409:1
 returns-4 : tie.Need-returns-4
 returns-4 c =
     let at-if1 = c .before .before .before in

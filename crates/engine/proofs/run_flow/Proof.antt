@@ -6,32 +6,21 @@ use mathlib.Core.Path.{refl}
 use borrow.Author.Needs.{needs}
 use Rattle.engine.proofs.run_flow.Statement.{statement}
 use Rattle.engine.proofs.run_flow.Tie as tie
-use Rattle.engine.proofs.run_flow.Reads as reads
-use Rattle.engine.proofs.run_flow.Lts as lts
-use Rattle.engine.proofs.answer_of.Reads as answer-of-reads
-use Rattle.engine.proofs.key_of.Reads as key-of-reads
-use Rattle.engine.proofs.run_machine.Reads as run-machine-reads
-use Rattle.packet.proofs.attributes_of.Reads as attributes-of-reads
 
--- src/lib.rt:397:9
 attributes-of-requires : tie.Need-attributes-of-requires
 attributes-of-requires c κs = search needs
 
--- src/lib.rt:398:9
 run-machine-requires : tie.Need-run-machine-requires
 run-machine-requires c κs = search needs
 
--- src/lib.rt:399:9
 key-of-requires : tie.Need-key-of-requires
 key-of-requires c κs =
     let entry = c .before .before .before .before in
     final-held (now (entry .args .s)) (entry .pre) (attribute (c .before .attributes-of .result)) (c .run-machine .result) (c .run-machine .ensures)
 
--- src/lib.rt:400:9
 answer-of-requires : tie.Need-answer-of-requires
 answer-of-requires c κs = search needs
 
--- src/lib.rt:393:1
 returns : tie.Need-returns
 returns c =
     let at-run-machine = c .before .before in

@@ -12,10 +12,6 @@ use Rattle.engine.specs.Meters.{outcomeOf}
 use borrow.Author.Needs.{needs}
 use Rattle.engine.proofs.run_machine.Statement.{statement}
 use Rattle.engine.proofs.run_machine.Tie as tie
-use Rattle.engine.proofs.run_machine.Reads as reads
-use Rattle.engine.proofs.run_machine.Lts as lts
-use Rattle.engine.proofs.start.Reads as start-reads
-use Rattle.engine.proofs.step_once.Reads as step-once-reads
 
 abbrev Inv-loop : tie.InvT-loop
 Inv-loop s a n m₀ m = (outcomeOf (ruleOf s) (attribute a) m ≡ after (count s) (ruleOf s) (attribute a) (m .rules)) × (length (m .calls) ≡ 4) × (length (m .queue) ≡ 16)
@@ -23,27 +19,21 @@ Inv-loop s a n m₀ m = (outcomeOf (ruleOf s) (attribute a) m ≡ after (count s
 abbrev μ-loop : tie.MeasureT-loop
 μ-loop s a n m₀ m = bound (count s) - m .rules
 
--- src/lib.rt:277:9
 start-requires : tie.Need-start-requires Inv-loop μ-loop
 start-requires c κs = search needs
 
--- src/lib.rt:278:5
 loop-holds : tie.Need-loop-holds Inv-loop μ-loop
 loop-holds c = let e = c .start .ensures in let k : after (count (now (c .before .before .args .s))) (ruleOf (now (c .before .before .args .s))) (attribute (c .before .before .args .a)) 0 ≡ running start = unfold after in refl in rw e (sym k, refl, refl)
 
--- src/lib.rt:279:9
 step-once-requires : tie.Need-step-once-requires Inv-loop μ-loop
 step-once-requires c κs = live (now (c .before .before .before .before .before .args .s)) (c .before .before .before .before .before .pre) (attribute (c .before .before .before .before .before .args .a)) (c .before .before .loop .m) (c .before .before .loop .inv .0) (c .if1 .taken) (c .before .before .loop .inv .1) (c .before .before .loop .inv .2)
 
--- src/lib.rt:278:5
 loop-less : tie.Need-loop-less Inv-loop μ-loop
 loop-less c = let r = stepped-rules (now (c .before .before .before .before .before .before .args .s)) (c .before .before .before .before .before .before .pre) (attribute (c .before .before .before .before .before .before .args .a)) (c .before .before .before .loop .m) (c .before .before .before .loop .inv .0) (c .before .if1 .taken) (c .step-once .result) (c .step-once .ensures) in let h = more (now (c .before .before .before .before .before .before .args .s)) (c .before .before .before .before .before .before .pre) (attribute (c .before .before .before .before .before .before .args .a)) (c .before .before .before .loop .m) (c .before .before .before .loop .inv .0) (c .before .if1 .taken) in omega (arith, r, h)
 
--- src/lib.rt:278:5
 loop-again : tie.Need-loop-again Inv-loop μ-loop
 loop-again c = (stepped (now (c .before .before .before .before .before .before .args .s)) (c .before .before .before .before .before .before .pre) (attribute (c .before .before .before .before .before .before .args .a)) (c .before .before .before .loop .m) (c .before .before .before .loop .inv .0) (c .before .if1 .taken) (c .step-once .result) (c .step-once .ensures), search needs, search needs)
 
--- src/lib.rt:271:1
 returns : tie.Need-returns Inv-loop μ-loop
 returns c = finished (now (c .before .before .before .before .before .args .s)) (c .before .before .before .before .before .pre) (attribute (c .before .before .before .before .before .args .a)) (c .before .before .loop .m) (c .before .before .loop .inv .0) (c .if1 .left)
 

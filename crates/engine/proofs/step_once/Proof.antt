@@ -8,32 +8,19 @@ use Rattle.engine.specs.Meters.{outcomeOf}
 use borrow.Author.Needs.{needs}
 use Rattle.engine.proofs.step_once.Statement.{statement}
 use Rattle.engine.proofs.step_once.Tie as tie
-use Rattle.engine.proofs.step_once.Reads as reads
-use Rattle.engine.proofs.step_once.Lts as lts
-use Rattle.engine.proofs.acts.Reads as acts-reads
-use Rattle.engine.proofs.next_rule.Reads as next-rule-reads
-use Rattle.engine.proofs.test_fails.Reads as test-fails-reads
-use Rattle.packet.proofs.attribute.Reads as attribute-reads
-use Rattle.rules.proofs.action_of.Reads as action-of-reads
-use Rattle.rules.proofs.record_at.Reads as record-at-reads
 
--- src/lib.rt:245:9
 record-at-requires : tie.Need-record-at-requires
 record-at-requires c κs = search needs
 
--- src/lib.rt:247:9
 attribute-requires : tie.Need-attribute-requires
 attribute-requires c κs = search needs
 
--- src/lib.rt:248:8
 test-fails-requires : tie.Need-test-fails-requires
 test-fails-requires c κs = search needs
 
--- src/lib.rt:249:9
 next-rule-requires : tie.Need-next-rule-requires
 next-rule-requires c κs = c .before .before .before .before .before .before .pre .running-so
 
--- src/lib.rt:249:9
 returns : tie.Need-returns
 returns c =
     let at-attribute = c .before .before .before in
@@ -41,15 +28,12 @@ returns c =
     let entry = at-record-at .before .before in
     ap (outcomeOf (ruleOf (now (entry .args .s))) (attribute (entry .args .a))) (c .next-rule .ensures) ∙ step-failed (entry .args .n) (ruleOf (now (entry .args .s))) (attribute (entry .args .a)) (entry .args .m) (entry .pre) (rw (← (ap (λ (x : RuleRecord). x .rule) (at-record-at .record-at .ensures)), ← (at-attribute .attribute .ensures)) (sym (c .before .before .test-fails .ensures) ∙ c .before .if1 .taken))
 
--- src/lib.rt:251:9
 action-of-requires : tie.Need-action-of-requires
 action-of-requires c κs = search needs
 
--- src/lib.rt:252:5
 acts-requires : tie.Need-acts-requires
 acts-requires c κs = let p = c .before .before .before .before .before .before .before .pre in let w = c .action-of .ensures in let q = (ap (λ (x : RuleRecord). x .rule) (c .before .before .before .before .before .record-at .ensures)) in (p .running-so, rw (w, q) (p .room), rw (w, q) (p .back))
 
--- src/lib.rt:241:1
 returns-2 : tie.Need-returns-2
 returns-2 c =
     let at-test-fails = c .before .before .before in

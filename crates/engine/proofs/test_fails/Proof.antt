@@ -1,19 +1,13 @@
 use borrow.Author.Needs.{needs}
 use Rattle.engine.proofs.test_fails.Statement.{statement}
 use Rattle.engine.proofs.test_fails.Tie as tie
-use Rattle.engine.proofs.test_fails.Reads as reads
-use Rattle.engine.proofs.test_fails.Lts as lts
-use Rattle.engine.proofs.rule_passes.Reads as rule-passes-reads
 
--- src/lib.rt:219:17
 rule-passes-requires : tie.Need-rule-passes-requires
 rule-passes-requires c κs = search needs
 
--- src/lib.rt:219:9
 returns : tie.Need-returns
 returns c = rw (c .before .if1 .taken, ← (c .rule-passes .ensures))
 
--- src/lib.rt:215:1
 returns-2 : tie.Need-returns-2
 returns-2 c = search needs
 

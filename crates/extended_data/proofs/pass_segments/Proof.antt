@@ -13,35 +13,27 @@ Inv-loop s first count at₀ left₀ at left = asPassed (entries (decode as-path
 abbrev μ-loop : tie.MeasureT-loop
 μ-loop s first count at₀ left₀ at left = left
 
--- src/extended.rt:177:5
 loop-holds : tie.Need-loop-holds Inv-loop μ-loop
 loop-holds c = refl
 
--- src/extended.rt:178:13
 pass-segment-requires : tie.Need-pass-segment-requires Inv-loop μ-loop
 pass-segment-requires c κs = search needs
 
--- src/extended.rt:179:26
 enum-known-entry : tie.Need-enum-known-entry Inv-loop μ-loop
 enum-known-entry c = search needs
 
--- src/extended.rt:180:13
 enum-told : tie.Need-enum-told Inv-loop μ-loop
 enum-told c = search needs
 
--- src/extended.rt:180:13
 returns : tie.Need-returns Inv-loop μ-loop
 returns c = c .enum-told .given .1 ∙ sym (passed-stop _ _ _ _ _ (c .before .before .before .loop-test .taken) (sym (c .before .before .pass-segment .ensures) ∙ c .enum-told .given .1)) ∙ c .before .before .before .before .loop .inv
 
--- src/extended.rt:183:9
 sub-left : tie.Need-sub-left Inv-loop μ-loop
 sub-left c = search needs
 
--- src/extended.rt:177:5
 loop-less : tie.Need-loop-less Inv-loop μ-loop
 loop-less c = search needs
 
--- src/extended.rt:177:5
 loop-again : tie.Need-loop-again Inv-loop μ-loop
 loop-again c =
     let at-pass-segment = c .before .before .before in
@@ -49,7 +41,6 @@ loop-again c =
     let at-loop = at-loop-test .before in
     sym (passed-step _ _ _ _ (at-loop-test .loop-test .taken) (sym (at-pass-segment .pass-segment .ensures) ∙ c .before .entry .given .1)) ∙ at-loop .loop .inv
 
--- src/extended.rt:172:1
 returns-2 : tie.Need-returns-2 Inv-loop μ-loop
 returns-2 c = sym (passed-end _ _ _ (c .loop-test .left)) ∙ c .before .loop .inv
 

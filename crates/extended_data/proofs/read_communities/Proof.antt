@@ -6,47 +6,36 @@ use Rattle.extended_data.proofs.Gateways.{communities-cut, communities-
 use Rattle.extended_data.proofs.read_communities.Statement.{statement}
 use Rattle.extended_data.proofs.read_communities.Tie as tie
 
--- src/extended.rt:199:40
 read-word-requires : tie.Need-read-word-requires
 read-word-requires c κs = search needs
 
--- src/extended.rt:199:24
 enum-known-count : tie.Need-enum-known-count
 enum-known-count c = search needs
 
--- src/extended.rt:200:38
 enum-told : tie.Need-enum-told
 enum-told c = search needs
 
--- src/extended.rt:200:9
 returns : tie.Need-returns
 returns c = sym (ap asExtended (communities-cut _ _ _ _ _ _ _ (sym (c .before .before .read-word .ensures) ∙ c .enum-told .given .1)))
 
--- src/extended.rt:202:11
 pass-words-requires : tie.Need-pass-words-requires
 pass-words-requires c κs = search needs
 
--- src/extended.rt:203:25
 enum-known-why : tie.Need-enum-known-why
 enum-known-why c = search needs
 
--- src/extended.rt:204:22
 enum-known-end : tie.Need-enum-known-end
 enum-known-end c = search needs
 
--- src/extended.rt:205:51
 read-word-requires-2 : tie.Need-read-word-requires-2
 read-word-requires-2 c κs = search needs
 
--- src/extended.rt:205:32
 enum-known-localpref : tie.Need-enum-known-localpref
 enum-known-localpref c = search needs
 
--- src/extended.rt:206:46
 enum-told-2 : tie.Need-enum-told-2
 enum-told-2 c = search needs
 
--- src/extended.rt:206:17
 returns-2 : tie.Need-returns-2
 returns-2 c =
     let at-end = c .before .before .before .before in
@@ -55,7 +44,6 @@ returns-2 c =
     let at-read-word = at-count .before .before in
     sym (ap asExtended (communities-found _ _ _ _ _ _ _ _ (sym (at-read-word .read-word .ensures) ∙ at-count .count .given .1) _ _ (sym (at-pass-words .pass-words .ensures) ∙ at-end .end .given .1) (reads-found (word-cut (sym (c .before .before .read-word2 .ensures) ∙ c .enum-told2 .given .1)))))
 
--- src/extended.rt:189:1
 returns-3 : tie.Need-returns-3
 returns-3 c =
     let at-pass-words = c .before .before .before in
@@ -63,7 +51,6 @@ returns-3 c =
     let at-read-word = at-count .before .before in
     sym (ap asExtended (communities-refused _ _ _ _ _ _ _ _ (sym (at-read-word .read-word .ensures) ∙ at-count .count .given .1) _ _ (sym (at-pass-words .pass-words .ensures) ∙ c .before .why .given .1)))
 
--- src/extended.rt:189:1
 returns-4 : tie.Need-returns-4
 returns-4 c =
     let at-read-word2 = c .before .before .before in

@@ -6,72 +6,57 @@ use Rattle.extended_data.proofs.DataTypes.{switch-kind, router-kind, ga
 use Rattle.extended_data.proofs.read_extended.Statement.{statement}
 use Rattle.extended_data.proofs.read_extended.Tie as tie
 
--- src/extended.rt:287:38
 read-word-requires : tie.Need-read-word-requires
 read-word-requires c κs = search needs
 
--- src/extended.rt:287:24
 enum-known-kind : tie.Need-enum-known-kind
 enum-known-kind c = search needs
 
--- src/extended.rt:288:38
 enum-told : tie.Need-enum-told
 enum-told c = search needs
 
--- src/extended.rt:288:9
 returns : tie.Need-returns
 returns c = sym (ap asExtended (union-cut _ _ _ _ _ _ _ (sym (c .before .before .read-word .ensures) ∙ c .enum-told .given .1)))
 
--- src/extended.rt:291:9
 read-switch-requires : tie.Need-read-switch-requires
 read-switch-requires c κs = search needs
 
--- src/extended.rt:291:9
 returns-2 : tie.Need-returns-2
 returns-2 c = c .read-switch .ensures ∙ sym (ap asExtended (switch-kind _ _ _ _ (sym (c .before .before .before .before .before .read-word .ensures) ∙ c .before .before .before .kind .given .1) (c .before .if1 .taken)))
 
--- src/extended.rt:294:9
 read-router-requires : tie.Need-read-router-requires
 read-router-requires c κs = search needs
 
--- src/extended.rt:294:9
 returns-3 : tie.Need-returns-3
 returns-3 c = c .read-router .ensures ∙ sym (ap asExtended (router-kind _ _ _ _ (sym (c .before .before .before .before .before .before .read-word .ensures) ∙ c .before .before .before .before .kind .given .1) (c .before .if2 .taken)))
 
--- src/extended.rt:297:9
 read-gateway-requires : tie.Need-read-gateway-requires
 read-gateway-requires c κs = search needs
 
--- src/extended.rt:297:9
 returns-4 : tie.Need-returns-4
 returns-4 c =
     let at-kind = c .before .before .before .before .before in
     let at-read-word = at-kind .before .before in
     c .read-gateway .ensures ∙ sym (ap asExtended (gateway-kind _ _ _ _ (sym (at-read-word .read-word .ensures) ∙ at-kind .kind .given .1) (c .before .if3 .taken)))
 
--- src/extended.rt:300:9
 read-user-requires : tie.Need-read-user-requires
 read-user-requires c κs = search needs
 
--- src/extended.rt:300:9
 returns-5 : tie.Need-returns-5
 returns-5 c =
     let at-kind = c .before .before .before .before .before .before in
     let at-read-word = at-kind .before .before in
     c .read-user .ensures ∙ sym (ap asExtended (user-kind _ _ _ _ (sym (at-read-word .read-word .ensures) ∙ at-kind .kind .given .1) (c .before .if4 .taken)))
 
--- src/extended.rt:303:9
 read-url-requires : tie.Need-read-url-requires
 read-url-requires c κs = search needs
 
--- src/extended.rt:303:9
 returns-6 : tie.Need-returns-6
 returns-6 c =
     let at-kind = c .before .before .before .before .before .before .before in
     let at-read-word = at-kind .before .before in
     c .read-url .ensures ∙ sym (ap asExtended (url-kind _ _ _ _ (sym (at-read-word .read-word .ensures) ∙ at-kind .kind .given .1) (c .before .if5 .taken)))
 
--- src/extended.rt:284:1
 returns-7 : tie.Need-returns-7
 returns-7 c =
     let at-if2 = c .before .before .before in

@@ -7,51 +7,39 @@ use Rattle.extended_data.proofs.Gateways.{path-cut, path-refused, path-
 use Rattle.extended_data.proofs.read_gateway.Statement.{statement}
 use Rattle.extended_data.proofs.read_gateway.Tie as tie
 
--- src/extended.rt:227:41
 read-word-requires : tie.Need-read-word-requires
 read-word-requires c κs = search needs
 
--- src/extended.rt:227:24
 enum-known-router-as : tie.Need-enum-known-router-as
 enum-known-router-as c = search needs
 
--- src/extended.rt:228:38
 enum-told : tie.Need-enum-told
 enum-told c = search needs
 
--- src/extended.rt:228:9
 returns : tie.Need-returns
 returns c = sym (ap asExtended (then-refused _ _ _ _ _ _ _ (reads-found (word-cut (sym (c .before .before .read-word .ensures) ∙ c .enum-told .given .1)))))
 
--- src/extended.rt:230:38
 read-word-requires-2 : tie.Need-read-word-requires-2
 read-word-requires-2 c κs = search needs
 
--- src/extended.rt:230:24
 enum-known-src-as : tie.Need-enum-known-src-as
 enum-known-src-as c = search needs
 
--- src/extended.rt:231:38
 enum-told-2 : tie.Need-enum-told-2
 enum-told-2 c = search needs
 
--- src/extended.rt:231:9
 returns-2 : tie.Need-returns-2
 returns-2 c = sym (ap asExtended (then-refused _ _ _ _ _ _ _ (reads-found (word-then (sym (c .before .before .before .before .before .before .read-word .ensures) ∙ c .before .before .before .before .router-as .given .1) (word-cut (sym (c .before .before .read-word2 .ensures) ∙ c .enum-told2 .given .1))))))
 
--- src/extended.rt:233:43
 read-word-requires-3 : tie.Need-read-word-requires-3
 read-word-requires-3 c κs = search needs
 
--- src/extended.rt:233:24
 enum-known-src-peer-as : tie.Need-enum-known-src-peer-as
 enum-known-src-peer-as c = search needs
 
--- src/extended.rt:234:38
 enum-told-3 : tie.Need-enum-told-3
 enum-told-3 c = search needs
 
--- src/extended.rt:234:9
 returns-3 : tie.Need-returns-3
 returns-3 c =
     let at-src-as = c .before .before .before .before in
@@ -60,19 +48,15 @@ returns-3 c =
     let at-read-word = at-router-as .before .before in
     sym (ap asExtended (then-refused _ _ _ _ _ _ _ (reads-found (word-then (sym (at-read-word .read-word .ensures) ∙ at-router-as .router-as .given .1) (word-then (sym (at-read-word2 .read-word2 .ensures) ∙ at-src-as .src-as .given .1) (word-cut (sym (c .before .before .read-word3 .ensures) ∙ c .enum-told3 .given .1)))))))
 
--- src/extended.rt:236:40
 read-word-requires-4 : tie.Need-read-word-requires-4
 read-word-requires-4 c κs = search needs
 
--- src/extended.rt:236:24
 enum-known-count : tie.Need-enum-known-count
 enum-known-count c = search needs
 
--- src/extended.rt:237:38
 enum-told-4 : tie.Need-enum-told-4
 enum-told-4 c = search needs
 
--- src/extended.rt:237:9
 returns-4 : tie.Need-returns-4
 returns-4 c =
     let at-src-peer-as = c .before .before .before .before in
@@ -83,23 +67,18 @@ returns-4 c =
     let at-read-word = at-router-as .before .before in
     sym (ap asExtended (path-cut _ _ _ _ _ _ (reads-found (word-then (sym (at-read-word .read-word .ensures) ∙ at-router-as .router-as .given .1) (word-then (sym (at-read-word2 .read-word2 .ensures) ∙ at-src-as .src-as .given .1) (word-then (sym (at-read-word3 .read-word3 .ensures) ∙ at-src-peer-as .src-peer-as .given .1) no-more)))) _ (sym (c .before .before .read-word4 .ensures) ∙ c .enum-told4 .given .1)))
 
--- src/extended.rt:239:11
 pass-segments-requires : tie.Need-pass-segments-requires
 pass-segments-requires c κs = search needs
 
--- src/extended.rt:240:25
 enum-known-why : tie.Need-enum-known-why
 enum-known-why c = search needs
 
--- src/extended.rt:241:22
 enum-known-end : tie.Need-enum-known-end
 enum-known-end c = search needs
 
--- src/extended.rt:243:13
 read-communities-requires : tie.Need-read-communities-requires
 read-communities-requires c κs = search needs
 
--- src/extended.rt:224:1
 returns-5 : tie.Need-returns-5
 returns-5 c =
     let at-pass-segments = c .before .before .before in
@@ -113,7 +92,6 @@ returns-5 c =
     let at-read-word = at-router-as .before .before in
     sym (ap asExtended (path-refused _ _ _ _ _ _ (reads-found (word-then (sym (at-read-word .read-word .ensures) ∙ at-router-as .router-as .given .1) (word-then (sym (at-read-word2 .read-word2 .ensures) ∙ at-src-as .src-as .given .1) (word-then (sym (at-read-word3 .read-word3 .ensures) ∙ at-src-peer-as .src-peer-as .given .1) no-more)))) _ _ (sym (at-read-word4 .read-word4 .ensures) ∙ at-count .count .given .1) _ _ (sym (at-pass-segments .pass-segments .ensures) ∙ c .before .why .given .1)))
 
--- src/extended.rt:224:1
 returns-6 : tie.Need-returns-6
 returns-6 c =
     let at-pass-segments = c .before .before .before .before in

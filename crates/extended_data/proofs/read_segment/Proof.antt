@@ -7,43 +7,33 @@ use Rattle.extended_data.proofs.Segments.{segment-cut, segment-refused,
 use Rattle.extended_data.proofs.read_segment.Statement.{statement}
 use Rattle.extended_data.proofs.read_segment.Tie as tie
 
--- src/extended.rt:138:42
 read-word-requires : tie.Need-read-word-requires
 read-word-requires c κs = search needs
 
--- src/extended.rt:138:24
 enum-known-kind : tie.Need-enum-known-kind
 enum-known-kind c = search needs
 
--- src/extended.rt:139:37
 enum-told : tie.Need-enum-told
 enum-told c = search needs
 
--- src/extended.rt:139:9
 returns : tie.Need-returns
 returns c = sym (ap asSegment (union-cut _ _ _ _ _ _ _ (sym (c .before .before .read-word .ensures) ∙ c .enum-told .given .1)))
 
--- src/extended.rt:142:9
 returns-2 : tie.Need-returns-2
 returns-2 c = sym (ap asSegment (enumeration-below _ _ _ _ _ _ _ _ (sym (c .before .before .before .before .read-word .ensures) ∙ c .before .before .kind .given .1) (c .if1 .taken)))
 
--- src/extended.rt:145:9
 returns-3 : tie.Need-returns-3
 returns-3 c = sym (ap asSegment (enumeration-above _ _ _ _ _ _ _ _ (sym (c .before .before .before .before .before .read-word .ensures) ∙ c .before .before .before .kind .given .1) (c .before .if1 .left) (c .if2 .taken)))
 
--- src/extended.rt:147:40
 read-word-requires-2 : tie.Need-read-word-requires-2
 read-word-requires-2 c κs = search needs
 
--- src/extended.rt:147:24
 enum-known-count : tie.Need-enum-known-count
 enum-known-count c = search needs
 
--- src/extended.rt:148:37
 enum-told-2 : tie.Need-enum-told-2
 enum-told-2 c = search needs
 
--- src/extended.rt:148:9
 returns-4 : tie.Need-returns-4
 returns-4 c =
     let at-if2 = c .before .before .before in
@@ -52,19 +42,15 @@ returns-4 c =
     let at-read-word = at-kind .before .before in
     sym (ap asSegment (segment-cut _ _ _ _ (sym (at-read-word .read-word .ensures) ∙ at-kind .kind .given .1) (at-if1 .if1 .left) (at-if2 .if2 .left) _ (sym (c .before .before .read-word2 .ensures) ∙ c .enum-told2 .given .1)))
 
--- src/extended.rt:150:11
 pass-words-requires : tie.Need-pass-words-requires
 pass-words-requires c κs = search needs
 
--- src/extended.rt:151:22
 enum-known-next : tie.Need-enum-known-next
 enum-known-next c = search needs
 
--- src/extended.rt:158:25
 enum-known-why : tie.Need-enum-known-why
 enum-known-why c = search needs
 
--- src/extended.rt:135:1
 returns-5 : tie.Need-returns-5
 returns-5 c =
     let at-pass-words = c .before .before .before in
@@ -76,7 +62,6 @@ returns-5 c =
     let at-read-word = at-kind .before .before in
     sym (ap asSegment (segment-found _ _ _ _ (sym (at-read-word .read-word .ensures) ∙ at-kind .kind .given .1) (at-if1 .if1 .left) (at-if2 .if2 .left) _ _ (sym (at-read-word2 .read-word2 .ensures) ∙ at-count .count .given .1) _ (sym (at-pass-words .pass-words .ensures) ∙ c .before .next .given .1)))
 
--- src/extended.rt:135:1
 returns-6 : tie.Need-returns-6
 returns-6 c =
     let at-pass-words = c .before .before .before in

@@ -7,43 +7,33 @@ use Rattle.extended_data.proofs.Users.{url-string}
 use Rattle.extended_data.proofs.read_url.Statement.{statement}
 use Rattle.extended_data.proofs.read_url.Tie as tie
 
--- src/extended.rt:265:44
 read-word-requires : tie.Need-read-word-requires
 read-word-requires c κs = search needs
 
--- src/extended.rt:265:24
 enum-known-direction : tie.Need-enum-known-direction
 enum-known-direction c = search needs
 
--- src/extended.rt:266:38
 enum-told : tie.Need-enum-told
 enum-told c = search needs
 
--- src/extended.rt:266:9
 returns : tie.Need-returns
 returns c = sym (ap asExtended (union-cut _ _ _ _ _ _ _ (sym (c .before .before .read-word .ensures) ∙ c .enum-told .given .1)))
 
--- src/extended.rt:269:9
 returns-2 : tie.Need-returns-2
 returns-2 c = sym (ap asExtended (enumeration-below _ _ _ _ _ _ _ _ (sym (c .before .before .before .before .read-word .ensures) ∙ c .before .before .direction .given .1) (c .if1 .taken)))
 
--- src/extended.rt:272:9
 returns-3 : tie.Need-returns-3
 returns-3 c = sym (ap asExtended (enumeration-above _ _ _ _ _ _ _ _ (sym (c .before .before .before .before .before .read-word .ensures) ∙ c .before .before .before .direction .given .1) (c .before .if1 .left) (c .if2 .taken)))
 
--- src/extended.rt:274:11
 read-string-requires : tie.Need-read-string-requires
 read-string-requires c κs = search needs
 
--- src/extended.rt:275:29
 enum-known-why : tie.Need-enum-known-why
 enum-known-why c = search needs
 
--- src/extended.rt:276:27
 enum-known-url : tie.Need-enum-known-url
 enum-known-url c = search needs
 
--- src/extended.rt:262:1
 returns-4 : tie.Need-returns-4
 returns-4 c =
     let at-read-string = c .before .before .before in
@@ -53,7 +43,6 @@ returns-4 c =
     let at-read-word = at-direction .before .before in
     sym (ap asExtended (url-string _ _ _ _ _ (sym (at-read-word .read-word .ensures) ∙ at-direction .direction .given .1) (at-if1 .if1 .left) (at-if2 .if2 .left) (sym (at-read-string .read-string .ensures) ∙ c .before .why .given .1)))
 
--- src/extended.rt:262:1
 returns-5 : tie.Need-returns-5
 returns-5 c =
     let at-read-string = c .before .before .before in

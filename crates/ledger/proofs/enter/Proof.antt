@@ -2,40 +2,28 @@ use Rattle.ledger.proofs.Tables.{no-row, one-row}
 use borrow.Author.Needs.{needs}
 use Rattle.ledger.proofs.enter.Statement.{statement}
 use Rattle.ledger.proofs.enter.Tie as tie
-use Rattle.ledger.proofs.enter.Reads as reads
-use Rattle.ledger.proofs.enter.Lts as lts
-use Rattle.ledger.proofs.row_for.Reads as row-for-reads
-use Rattle.ledger.proofs.update.Reads as update-reads
 
--- src/lib.rt:255:9
 row-for-requires : tie.Need-row-for-requires
 row-for-requires c κs = search needs
 
--- src/lib.rt:258:9
 returns : tie.Need-returns
 returns c = no-row (c .before .before .args .t1) (c .before .before .args .x) (search needs) (c .before .row-for .result) (c .before .row-for .ensures) (c .if1 .taken)
 
--- src/lib.rt:260:15
 mul-row : tie.Need-mul-row
 mul-row c = search needs
 
--- src/lib.rt:260:15
 array-copy-out-row : tie.Need-array-copy-out-row
 array-copy-out-row c = search needs
 
--- src/lib.rt:261:9
 update-requires : tie.Need-update-requires
 update-requires c κs = search needs
 
--- src/lib.rt:265:5
 mul-after : tie.Need-mul-after
 mul-after c = search needs
 
--- src/lib.rt:265:5
 array-set-from-after : tie.Need-array-set-from-after
 array-set-from-after c = search needs
 
--- src/lib.rt:252:1
 returns-2 : tie.Need-returns-2
 returns-2 c =
     let at-if1 = c .before .before .before in

@@ -7,8 +7,6 @@ use Rattle.ledger.proofs.Tables.{free, not-free, first-here, first-step
 use Rattle.ledger.specs.Ledger.{isFree, firstRow, freeRow}
 use Rattle.ledger.proofs.first_free.Statement.{statement}
 use Rattle.ledger.proofs.first_free.Tie as tie
-use Rattle.ledger.proofs.first_free.Reads as reads
-use Rattle.ledger.proofs.first_free.Lts as lts
 
 abbrev Inv-loop : tie.InvT-loop
 Inv-loop rows i₀ i = (i ≤ 64) × (i + firstRow isFree (drop i rows) ≡ firstRow isFree rows)
@@ -16,41 +14,33 @@ Inv-loop rows i₀ i = (i ≤ 64) × (i + firstRow isFree (drop i rows) ≡ firs
 abbrev μ-loop : tie.MeasureT-loop
 μ-loop rows i₀ i = 64 - i
 
--- src/lib.rt:213:5
 loop-holds : tie.Need-loop-holds Inv-loop μ-loop
 loop-holds c = (search needs, omega arith)
 
--- src/lib.rt:214:19
 mul-row : tie.Need-mul-row Inv-loop μ-loop
 mul-row c = search needs
 
--- src/lib.rt:214:19
 array-copy-out-row : tie.Need-array-copy-out-row Inv-loop μ-loop
 array-copy-out-row c = search needs
 
--- src/lib.rt:216:13
 add-i : tie.Need-add-i Inv-loop μ-loop
 add-i c = search needs
 
--- src/lib.rt:213:5
 loop-less : tie.Need-loop-less Inv-loop μ-loop
 loop-less c = search needs
 
--- src/lib.rt:213:5
 loop-again : tie.Need-loop-again Inv-loop μ-loop
 loop-again c =
     let at-loop = c .before .before .before in
     let entry = at-loop .before in
     let rows = entry .args .t1 in let long : length rows ≡ 64 = search needs in (search needs, sym (first-step isFree rows (at-loop .loop .i) (omega arith) (not-free (getD rows (at-loop .loop .i) freeRow) (c .if1 .taken))) ∙ at-loop .loop .inv .1)
 
--- src/lib.rt:218:13
 returns : tie.Need-returns Inv-loop μ-loop
 returns c =
     let at-loop = c .before .before .before in
     let entry = at-loop .before in
     let rows = entry .args .t1 in let long : length rows ≡ 64 = search needs in sym (first-here isFree rows (at-loop .loop .i) (omega arith) (free (getD rows (at-loop .loop .i) freeRow) (c .if1 .left))) ∙ at-loop .loop .inv .1
 
--- src/lib.rt:209:1
 returns-2 : tie.Need-returns-2 Inv-loop μ-loop
 returns-2 c = let rows = c .before .before .args .t1 in let long : length rows ≡ 64 = search needs in sym (first-end isFree rows (c .before .loop .i) (omega arith)) ∙ c .before .loop .inv .1
 

@@ -2,48 +2,34 @@ use Rattle.ledger.proofs.Updates.{wraps-back, repeats, goes-back, goes-
 use borrow.Author.Needs.{needs}
 use Rattle.ledger.proofs.go_on.Statement.{statement}
 use Rattle.ledger.proofs.go_on.Tie as tie
-use Rattle.ledger.proofs.go_on.Reads as reads
-use Rattle.ledger.proofs.go_on.Lts as lts
-use Rattle.std.proofs.num.wrapping_add_u64.Reads as wrapping-add-u64-reads
-use Rattle.std.proofs.num.wrapping_sub_u32.Reads as wrapping-sub-u32-reads
 
--- src/lib.rt:144:9
 wrapping-sub-u32-requires : tie.Need-wrapping-sub-u32-requires
 wrapping-sub-u32-requires c κs = search needs
 
--- src/lib.rt:147:9
 returns : tie.Need-returns
 returns c = repeats (c .before .before .before .args .row) (c .before .before .before .args .x) (c .before .wrapping-sub-u32 .result) (wraps-back _ _ _ (search needs) (search needs) (search needs) (c .before .wrapping-sub-u32 .ensures)) (c .if1 .taken)
 
--- src/lib.rt:151:9
 returns-2 : tie.Need-returns-2
 returns-2 c = goes-back (c .before .before .before .before .args .row) (c .before .before .before .before .args .x) (c .before .before .wrapping-sub-u32 .result) (wraps-back _ _ _ (search needs) (search needs) (search needs) (c .before .before .wrapping-sub-u32 .ensures)) (c .before .if1 .left) (c .if2 .taken)
 
--- src/lib.rt:153:9
 wrapping-sub-u32-requires-2 : tie.Need-wrapping-sub-u32-requires-2
 wrapping-sub-u32-requires-2 c κs = search needs
 
--- src/lib.rt:164:69
 sub-wrapping-add-u64 : tie.Need-sub-wrapping-add-u64
 sub-wrapping-add-u64 c = search needs
 
--- src/lib.rt:164:68
 cast-wrapping-add-u64 : tie.Need-cast-wrapping-add-u64
 cast-wrapping-add-u64 c = search needs
 
--- src/lib.rt:164:25
 wrapping-add-u64-requires : tie.Need-wrapping-add-u64-requires
 wrapping-add-u64-requires c κs = search needs
 
--- src/lib.rt:165:68
 cast-wrapping-add-u64-2 : tie.Need-cast-wrapping-add-u64-2
 cast-wrapping-add-u64-2 c = search needs
 
--- src/lib.rt:165:25
 wrapping-add-u64-requires-2 : tie.Need-wrapping-add-u64-requires-2
 wrapping-add-u64-requires-2 c κs = search needs
 
--- src/lib.rt:140:1
 returns-3 : tie.Need-returns-3
 returns-3 c = goes-on (c .before .before .before .before .before .before .before .before .args .row) (c .before .before .before .before .before .before .before .before .args .x) (c .before .before .before .before .before .before .wrapping-sub-u32 .result) (wraps-back _ _ _ (search needs) (search needs) (search needs) (c .before .before .before .before .before .before .wrapping-sub-u32 .ensures)) (c .before .before .before .before .before .if1 .left) (c .before .before .before .before .if2 .left) (c .before .before .before .wrapping-sub-u322 .result) _ _ (wraps-back _ _ _ (search needs) (search needs) (search needs) (c .before .before .before .wrapping-sub-u322 .ensures)) (c .before .wrapping-add-u64 .ensures) (c .wrapping-add-u642 .ensures)
 

@@ -3,19 +3,13 @@ use mathlib.Core.Path.{_∙_}
 use borrow.Author.Needs.{needs}
 use Rattle.ledger.proofs.is_of.Statement.{statement}
 use Rattle.ledger.proofs.is_of.Tie as tie
-use Rattle.ledger.proofs.is_of.Reads as reads
-use Rattle.ledger.proofs.is_of.Lts as lts
-use Rattle.ledger.proofs.same_source.Reads as same-source-reads
 
--- src/lib.rt:229:9
 same-source-requires : tie.Need-same-source-requires
 same-source-requires c κs = search needs
 
--- src/lib.rt:229:9
 returns : tie.Need-returns
 returns c = c .same-source .ensures ∙ used-tells (c .before .before .args .row) (c .before .before .args .x) (c .before .if1 .taken)
 
--- src/lib.rt:225:1
 returns-2 : tie.Need-returns-2
 returns-2 c = unused-tells (c .before .args .row) (c .before .args .x) (c .if1 .left)
 

@@ -2,24 +2,16 @@ use Rattle.ledger.proofs.Tables.{own-row, free-row}
 use borrow.Author.Needs.{needs}
 use Rattle.ledger.proofs.row_for.Statement.{statement}
 use Rattle.ledger.proofs.row_for.Tie as tie
-use Rattle.ledger.proofs.row_for.Reads as reads
-use Rattle.ledger.proofs.row_for.Lts as lts
-use Rattle.ledger.proofs.first_free.Reads as first-free-reads
-use Rattle.ledger.proofs.own_row.Reads as own-row-reads
 
--- src/lib.rt:238:9
 own-row-requires : tie.Need-own-row-requires
 own-row-requires c κs = search needs
 
--- src/lib.rt:240:9
 returns : tie.Need-returns
 returns c = own-row (c .before .before .args .rows) (c .before .before .args .x) (search needs) _ (c .before .own-row .ensures) (c .if1 .taken)
 
--- src/lib.rt:242:5
 first-free-requires : tie.Need-first-free-requires
 first-free-requires c κs = search needs
 
--- src/lib.rt:235:1
 returns-2 : tie.Need-returns-2
 returns-2 c =
     let entry = c .before .before .before in

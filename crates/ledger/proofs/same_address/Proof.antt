@@ -1,30 +1,24 @@
 use Rattle.ledger.proofs.Sources.{other-type, other-first, same-ipv4, other-second, other-third, last-tells}
 use Rattle.ledger.proofs.same_address.Statement.{statement}
 use Rattle.ledger.proofs.same_address.Tie as tie
-use Rattle.ledger.proofs.same_address.Reads as reads
-use Rattle.ledger.proofs.same_address.Lts as lts
 
--- src/lib.rt:82:9
 returns : tie.Need-returns
 returns c =
     let entry = c .before .before .before .before .before in
     other-type (entry .args .x) (entry .args .y) (c .if1 .taken)
 
--- src/lib.rt:85:9
 returns-2 : tie.Need-returns-2
 returns-2 c =
     let at-if1 = c .before .before .before in
     let entry = at-if1 .before .before .before .before .before in
     other-first (entry .args .x) (entry .args .y) (at-if1 .if1 .left) (c .if2 .taken)
 
--- src/lib.rt:88:9
 returns-3 : tie.Need-returns-3
 returns-3 c =
     let at-if1 = c .before .before .before .before .before in
     let entry = at-if1 .before .before .before .before .before in
     same-ipv4 (entry .args .x) (entry .args .y) (at-if1 .if1 .left) (c .before .before .if2 .left) (c .if3 .taken)
 
--- src/lib.rt:91:9
 returns-4 : tie.Need-returns-4
 returns-4 c =
     let at-if3 = c .before .before .before in
@@ -33,7 +27,6 @@ returns-4 c =
     let entry = at-if1 .before .before .before .before .before in
     other-second (entry .args .x) (entry .args .y) (at-if1 .if1 .left) (at-if2 .if2 .left) (at-if3 .if3 .left) (c .if4 .taken)
 
--- src/lib.rt:94:9
 returns-5 : tie.Need-returns-5
 returns-5 c =
     let at-if4 = c .before .before .before in
@@ -43,7 +36,6 @@ returns-5 c =
     let entry = at-if1 .before .before .before .before .before in
     other-third (entry .args .x) (entry .args .y) (at-if1 .if1 .left) (at-if2 .if2 .left) (at-if3 .if3 .left) (at-if4 .if4 .left) (c .if5 .taken)
 
--- src/lib.rt:76:1
 returns-6 : tie.Need-returns-6
 returns-6 c =
     let at-if4 = c .before .before .before .before .before in

@@ -3,21 +3,15 @@ use mathlib.Core.Path.{_∙_}
 use borrow.Author.Needs.{needs}
 use Rattle.ledger.proofs.same_source.Statement.{statement}
 use Rattle.ledger.proofs.same_source.Tie as tie
-use Rattle.ledger.proofs.same_source.Reads as reads
-use Rattle.ledger.proofs.same_source.Lts as lts
-use Rattle.ledger.proofs.same_address.Reads as same-address-reads
 
--- src/lib.rt:107:9
 returns : tie.Need-returns
 returns c =
     let entry = c .before .before .before .before .before .before in
     other-id (entry .args .row) (entry .args .x) (c .if1 .taken)
 
--- src/lib.rt:109:5
 same-address-requires : tie.Need-same-address-requires
 same-address-requires c κs = search needs
 
--- src/lib.rt:100:1
 returns-2 : tie.Need-returns-2
 returns-2 c =
     let entry = c .before .before .before .before .before .before .before in

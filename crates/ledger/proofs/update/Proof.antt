@@ -3,38 +3,27 @@ use mathlib.Core.Path.{sym, _∙_}
 use borrow.Author.Needs.{needs}
 use Rattle.ledger.proofs.update.Statement.{statement}
 use Rattle.ledger.proofs.update.Tie as tie
-use Rattle.ledger.proofs.update.Reads as reads
-use Rattle.ledger.proofs.update.Lts as lts
-use Rattle.ledger.proofs.go_on.Reads as go-on-reads
-use Rattle.ledger.proofs.open.Reads as open-reads
-use Rattle.ledger.proofs.same_source.Reads as same-source-reads
 
--- src/lib.rt:175:12
 same-source-requires : tie.Need-same-source-requires
 same-source-requires c κs = search needs
 
--- src/lib.rt:176:13
 go-on-requires : tie.Need-go-on-requires
 go-on-requires c κs = search needs
 
--- src/lib.rt:176:13
 returns : tie.Need-returns
 returns c =
     let at-if1 = c .before .before .before in
     let entry = at-if1 .before in
     c .go-on .ensures ∙ of-source (entry .args .row) (entry .args .x) (at-if1 .if1 .taken) (sym (c .before .before .same-source .ensures) ∙ c .before .if2 .taken)
 
--- src/lib.rt:179:9
 returns-2 : tie.Need-returns-2
 returns-2 c =
     let entry = c .before .before .before in
     of-another (entry .args .row) (entry .args .x) (c .before .before .if1 .taken) (sym (c .before .same-source .ensures) ∙ c .if2 .left)
 
--- src/lib.rt:181:5
 open-requires : tie.Need-open-requires
 open-requires c κs = search needs
 
--- src/lib.rt:171:1
 returns-3 : tie.Need-returns-3
 returns-3 c = c .«open» .ensures ∙ opens (c .before .before .args .row) (c .before .before .args .x) (c .before .if1 .left)
 

@@ -6,27 +6,21 @@ use borrow.Author.Needs.{needs}
 use Rattle.lister.proofs.finish.Statement.{statement}
 use Rattle.lister.proofs.finish.Tie as tie
 
--- src/main.rt:151:33
 end-lines-requires : tie.Need-end-lines-requires
 end-lines-requires c κs = search needs
 
--- src/main.rt:151:28
 enum-known-n : tie.Need-enum-known-n
 enum-known-n c = search needs
 
--- src/main.rt:152:9
 enum-told : tie.Need-enum-told
 enum-told c = search needs
 
--- src/main.rt:152:9
 same-length : tie.Need-same-length
 same-length c = search needs
 
--- src/main.rt:152:9
 returns : tie.Need-returns
 returns c = search needs
 
--- src/main.rt:154:5
 flush-requires : tie.Need-flush-requires
 flush-requires c κs =
     let at-end-lines = c .before .before .before .before .before .before in
@@ -35,11 +29,9 @@ flush-requires c κs =
     let h = line-inside (entry .args .output .now) e _ _ _ (ap (λ x. wrote x e) (sym (c .before .before .n .given .1)) ∙ at-end-lines .end-lines .ensures) (search needs) in
     omega arith
 
--- src/main.rt:150:1
 same-length-2 : tie.Need-same-length-2
 same-length-2 c = search needs
 
--- src/main.rt:150:1
 returns-2 : tie.Need-returns-2
 returns-2 c = search needs
 

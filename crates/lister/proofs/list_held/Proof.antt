@@ -14,27 +14,21 @@ Inv-loop output₀ s listed₀ state₀ turns₀ output listed state turns = (le
 abbrev μ-loop : tie.MeasureT-loop
 μ-loop output₀ s listed₀ state₀ turns₀ output listed state turns = turns
 
--- src/main.rt:100:5
 loop-holds : tie.Need-loop-holds Inv-loop μ-loop
 loop-holds c = (refl, search needs)
 
--- src/main.rt:101:47
 sub-list-records : tie.Need-sub-list-records Inv-loop μ-loop
 sub-list-records c = search needs
 
--- src/main.rt:101:47
 part-list-records-start : tie.Need-part-list-records-start Inv-loop μ-loop
 part-list-records-start c = search needs
 
--- src/main.rt:101:47
 part-list-records-end : tie.Need-part-list-records-end Inv-loop μ-loop
 part-list-records-end c = search needs
 
--- src/main.rt:101:13
 list-records-requires : tie.Need-list-records-requires Inv-loop μ-loop
 list-records-requires c κs = search needs
 
--- src/main.rt:102:9
 add-listed : tie.Need-add-listed Inv-loop μ-loop
 add-listed c =
     let at-list-records = c .before .before .before in
@@ -42,15 +36,12 @@ add-listed c =
     let entry = at-loop .before .before .before in
     let h = listed-part _ (entry .args .s .now) _ (at-loop .loop .listed) _ _ (at-loop .loop .inv .1) (at-list-records .list-records .ensures) in omega arith
 
--- src/main.rt:104:13
 flush-requires : tie.Need-flush-requires Inv-loop μ-loop
 flush-requires c κs = let h = written-inside _ _ _ _ _ (c .before .before .before .before .before .list-records .ensures) (search needs) in omega arith
 
--- src/main.rt:105:13
 same-length : tie.Need-same-length Inv-loop μ-loop
 same-length c = search needs
 
--- src/main.rt:105:13
 returns : tie.Need-returns Inv-loop μ-loop
 returns c =
     let at-list-records = c .before .before .before .before .before .before .before in
@@ -61,15 +52,12 @@ returns c =
 enum-told : tie.Need-enum-told Inv-loop μ-loop
 enum-told c = search needs
 
--- src/main.rt:115:32
 enum-told-2 : tie.Need-enum-told-2 Inv-loop μ-loop
 enum-told-2 c = search needs
 
--- src/main.rt:115:32
 same-length-2 : tie.Need-same-length-2 Inv-loop μ-loop
 same-length-2 c = search needs
 
--- src/main.rt:115:32
 returns-2 : tie.Need-returns-2 Inv-loop μ-loop
 returns-2 c =
     let at-list-records = c .before .before .before .before .before .before .before .before .before in
@@ -77,11 +65,9 @@ returns-2 c =
     let entry = at-loop .before .before .before in
     listed-part _ (entry .args .s .now) _ (at-loop .loop .listed) _ _ (at-loop .loop .inv .1) (at-list-records .list-records .ensures)
 
--- src/main.rt:121:18
 same-length-3 : tie.Need-same-length-3 Inv-loop μ-loop
 same-length-3 c = search needs
 
--- src/main.rt:121:18
 returns-3 : tie.Need-returns-3 Inv-loop μ-loop
 returns-3 c =
     let at-list-records = c .before .before .before .before .before .before .before .before in
@@ -89,15 +75,12 @@ returns-3 c =
     let entry = at-loop .before .before .before in
     listed-part _ (entry .args .s .now) _ (at-loop .loop .listed) _ _ (at-loop .loop .inv .1) (at-list-records .list-records .ensures)
 
--- src/main.rt:128:9
 sub-turns : tie.Need-sub-turns Inv-loop μ-loop
 sub-turns c = search needs
 
--- src/main.rt:100:5
 loop-less : tie.Need-loop-less Inv-loop μ-loop
 loop-less c = search needs
 
--- src/main.rt:100:5
 loop-again : tie.Need-loop-again Inv-loop μ-loop
 loop-again c =
     let at-list-records = c .before .before .before .before .before .before .before .before .before in
@@ -105,11 +88,9 @@ loop-again c =
     let entry = at-loop .before .before .before in
     let h = listed-part _ (entry .args .s .now) _ (at-loop .loop .listed) _ _ (at-loop .loop .inv .1) (at-list-records .list-records .ensures) in (search needs, h)
 
--- src/main.rt:94:1
 same-length-4 : tie.Need-same-length-4 Inv-loop μ-loop
 same-length-4 c = search needs
 
--- src/main.rt:94:1
 returns-4 : tie.Need-returns-4 Inv-loop μ-loop
 returns-4 c = search needs
 

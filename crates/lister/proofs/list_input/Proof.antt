@@ -13,119 +13,90 @@ Inv-loop input₀ output₀ state₀ held₀ turns₀ t9 input output state held
 abbrev μ-loop : tie.MeasureT-loop
 μ-loop input₀ output₀ state₀ held₀ turns₀ t9 input output state held turns = turns
 
--- src/main.rt:166:5
 loop-holds : tie.Need-loop-holds Inv-loop μ-loop
 loop-holds c = (refl, refl, search needs)
 
--- src/main.rt:167:13
 fill-requires : tie.Need-fill-requires Inv-loop μ-loop
 fill-requires c κs = search needs
 
--- src/main.rt:169:22
 slice-aggregate-fail : tie.Need-slice-aggregate-fail Inv-loop μ-loop
 slice-aggregate-fail c = search needs
 
--- src/main.rt:169:13
 fail-requires : tie.Need-fail-requires Inv-loop μ-loop
 fail-requires c κs = search needs
 
--- src/main.rt:170:13
 same-length : tie.Need-same-length Inv-loop μ-loop
 same-length c = search needs
 
--- src/main.rt:170:13
 same-length-2 : tie.Need-same-length-2 Inv-loop μ-loop
 same-length-2 c = search needs
 
--- src/main.rt:170:13
 returns : tie.Need-returns Inv-loop μ-loop
 returns c = search needs
 
--- src/main.rt:174:13
 finish-requires : tie.Need-finish-requires Inv-loop μ-loop
 finish-requires c κs = search needs
 
--- src/main.rt:175:13
 same-length-3 : tie.Need-same-length-3 Inv-loop μ-loop
 same-length-3 c = search needs
 
--- src/main.rt:175:13
 same-length-4 : tie.Need-same-length-4 Inv-loop μ-loop
 same-length-4 c = search needs
 
--- src/main.rt:175:13
 returns-2 : tie.Need-returns-2 Inv-loop μ-loop
 returns-2 c = search needs
 
--- src/main.rt:177:35
 slice-reshare-prefix-list-held : tie.Need-slice-reshare-prefix-list-held Inv-loop μ-loop
 slice-reshare-prefix-list-held c = search needs
 
--- src/main.rt:177:35
 slice-aggregate-list-held : tie.Need-slice-aggregate-list-held Inv-loop μ-loop
 slice-aggregate-list-held c = rw length-take (omega arith)
 
--- src/main.rt:177:13
 list-held-requires : tie.Need-list-held-requires Inv-loop μ-loop
 list-held-requires c κs = search needs
 
--- src/main.rt:180:13
 same-length-5 : tie.Need-same-length-5 Inv-loop μ-loop
 same-length-5 c = search needs
 
--- src/main.rt:180:13
 same-length-6 : tie.Need-same-length-6 Inv-loop μ-loop
 same-length-6 c = search needs
 
--- src/main.rt:180:13
 returns-3 : tie.Need-returns-3 Inv-loop μ-loop
 returns-3 c = search needs
 
--- src/main.rt:183:13
 finish-requires-2 : tie.Need-finish-requires-2 Inv-loop μ-loop
 finish-requires-2 c κs = search needs
 
--- src/main.rt:184:13
 same-length-7 : tie.Need-same-length-7 Inv-loop μ-loop
 same-length-7 c = search needs
 
--- src/main.rt:184:13
 same-length-8 : tie.Need-same-length-8 Inv-loop μ-loop
 same-length-8 c = search needs
 
--- src/main.rt:184:13
 returns-4 : tie.Need-returns-4 Inv-loop μ-loop
 returns-4 c = search needs
 
--- src/main.rt:186:9
 shift-requires : tie.Need-shift-requires Inv-loop μ-loop
 shift-requires c κs = (front-inside _ _ _ (c .before .before .before .before .before .before .list-held .ensures), search needs)
 
--- src/main.rt:187:16
 sub-held : tie.Need-sub-held Inv-loop μ-loop
 sub-held c = front-inside _ _ _ (c .before .before .before .before .before .before .before .before .before .before .list-held .ensures)
 
--- src/main.rt:188:9
 sub-turns : tie.Need-sub-turns Inv-loop μ-loop
 sub-turns c = search needs
 
--- src/main.rt:166:5
 loop-less : tie.Need-loop-less Inv-loop μ-loop
 loop-less c = search needs
 
--- src/main.rt:166:5
 loop-again : tie.Need-loop-again Inv-loop μ-loop
 loop-again c = search needs
 
--- src/main.rt:157:1
 same-length-9 : tie.Need-same-length-9 Inv-loop μ-loop
 same-length-9 c = search needs
 
--- src/main.rt:157:1
 same-length-10 : tie.Need-same-length-10 Inv-loop μ-loop
 same-length-10 c = search needs
 
--- src/main.rt:157:1
 returns-5 : tie.Need-returns-5 Inv-loop μ-loop
 returns-5 c = search needs
 

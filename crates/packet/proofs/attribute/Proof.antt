@@ -2,60 +2,47 @@ use Rattle.packet.proofs.Views.{no-attribute}
 use Rattle.packet.specs.Attributes.{attribute}
 use Rattle.packet.proofs.attribute.Statement.{statement}
 use Rattle.packet.proofs.attribute.Tie as tie
-use Rattle.packet.proofs.attribute.Reads as reads
-use Rattle.packet.proofs.attribute.Lts as lts
 
--- src/lib.rt:227:1
 returns : tie.Need-returns
 unfolding attribute
 returns c = rw (c .match .keys1)
 
--- src/lib.rt:227:1
 returns-2 : tie.Need-returns-2
 unfolding attribute
 returns-2 c = rw (c .match .keys2)
 
--- src/lib.rt:227:1
 returns-3 : tie.Need-returns-3
 unfolding attribute
 returns-3 c = rw (c .match .keys3)
 
--- src/lib.rt:227:1
 returns-4 : tie.Need-returns-4
 unfolding attribute
 returns-4 c = rw (c .match .keys4)
 
--- src/lib.rt:227:1
 returns-5 : tie.Need-returns-5
 unfolding attribute
 returns-5 c = rw (c .match .keys5)
 
--- src/lib.rt:227:1
 returns-6 : tie.Need-returns-6
 unfolding attribute
 returns-6 c = rw (c .match .keys6)
 
--- src/lib.rt:227:1
 returns-7 : tie.Need-returns-7
 unfolding attribute
 returns-7 c = rw (c .match .keys7)
 
--- src/lib.rt:227:1
 returns-8 : tie.Need-returns-8
 unfolding attribute
 returns-8 c = rw (c .match .keys8)
 
--- src/lib.rt:227:1
 returns-9 : tie.Need-returns-9
 unfolding attribute
 returns-9 c = rw (c .match .keys9)
 
--- src/lib.rt:227:1
 returns-10 : tie.Need-returns-10
 unfolding attribute
 returns-10 c = rw (c .match .keys10)
 
--- src/lib.rt:227:1
 returns-11 : tie.Need-returns-11
 returns-11 c =
     let entry = c .before .before .before in

@@ -1,15 +1,10 @@
 use borrow.Author.Needs.{needs}
 use Rattle.packet.proofs.attributes_of.Statement.{statement}
 use Rattle.packet.proofs.attributes_of.Tie as tie
-use Rattle.packet.proofs.attributes_of.Reads as reads
-use Rattle.packet.proofs.attributes_of.Lts as lts
-use Rattle.packet.proofs.packet_view.Reads as packet-view-reads
 
--- src/lib.rt:218:9
 packet-view-requires : tie.Need-packet-view-requires
 packet-view-requires c κs = search needs
 
--- src/lib.rt:213:1
 returns : tie.Need-returns
 returns c = let e = c .packet-view .ensures in rw e
 

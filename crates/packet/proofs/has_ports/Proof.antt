@@ -1,14 +1,10 @@
 use Rattle.packet.proofs.Views.{tcp, udp-tells}
 use Rattle.packet.proofs.has_ports.Statement.{statement}
 use Rattle.packet.proofs.has_ports.Tie as tie
-use Rattle.packet.proofs.has_ports.Reads as reads
-use Rattle.packet.proofs.has_ports.Lts as lts
 
--- src/lib.rt:78:9
 returns : tie.Need-returns
 returns c = tcp (c .before .args .protocol) (c .if1 .taken)
 
--- src/lib.rt:74:1
 returns-2 : tie.Need-returns-2
 returns-2 c = udp-tells (c .before .args .protocol) (c .if1 .left)
 

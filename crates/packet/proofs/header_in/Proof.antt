@@ -5,73 +5,54 @@ use mathlib.Core.Path.{sym, ap, _∙_}
 use borrow.Author.Needs.{needs}
 use Rattle.packet.proofs.header_in.Statement.{statement}
 use Rattle.packet.proofs.header_in.Tie as tie
-use Rattle.packet.proofs.header_in.Reads as reads
-use Rattle.packet.proofs.header_in.Lts as lts
-use Rattle.packet.proofs.header_view.Reads as header-view-reads
-use Rattle.packet.proofs.no_view.Reads as no-view-reads
 
--- src/lib.rt:170:13
 cast-n : tie.Need-cast-n
 cast-n c = search needs
 
--- src/lib.rt:172:9
 no-view-requires : tie.Need-no-view-requires
 no-view-requires c κs = search needs
 
--- src/lib.rt:172:9
 returns : tie.Need-returns
 returns c =
     let entry = c .before .before .before .before in
     c .no-view .ensures ∙ nothing-there (entry .args .protocol) ∙ sym (ap (headerView (entry .args .protocol)) (text-beyond (now (entry .args .s)) (entry .args .t) (c .before .if1 .taken)))
 
--- src/lib.rt:174:8
 sub-if2 : tie.Need-sub-if2
 sub-if2 c = search needs
 
--- src/lib.rt:175:28
 sub-header-view : tie.Need-sub-header-view
 sub-header-view c = search needs
 
--- src/lib.rt:175:28
 part-header-view-start : tie.Need-part-header-view-start
 part-header-view-start c = search needs
 
--- src/lib.rt:175:28
 part-header-view-end : tie.Need-part-header-view-end
 part-header-view-end c = search needs
 
--- src/lib.rt:175:9
 header-view-requires : tie.Need-header-view-requires
 header-view-requires c κs = search needs
 
--- src/lib.rt:175:9
 returns-2 : tie.Need-returns-2
 returns-2 c =
     let at-if1 = c .before .before .before in
     let entry = at-if1 .before .before .before in
     c .header-view .ensures ∙ ap (headerView (entry .args .protocol)) (to-end (now (entry .args .s)) (entry .args .t .at) ∙ text-rest (now (entry .args .s)) (entry .args .t) (at-if1 .if1 .left) (c .before .before .if2 .taken))
 
--- src/lib.rt:177:24
 add-header-view : tie.Need-add-header-view
 add-header-view c = search needs
 
--- src/lib.rt:177:17
 sub-header-view-2 : tie.Need-sub-header-view-2
 sub-header-view-2 c = search needs
 
--- src/lib.rt:177:17
 part-header-view-start-2 : tie.Need-part-header-view-start-2
 part-header-view-start-2 c = search needs
 
--- src/lib.rt:177:17
 part-header-view-end-2 : tie.Need-part-header-view-end-2
 part-header-view-end-2 c = search needs
 
--- src/lib.rt:177:5
 header-view-requires-2 : tie.Need-header-view-requires-2
 header-view-requires-2 c κs = search needs
 
--- src/lib.rt:166:1
 returns-3 : tie.Need-returns-3
 returns-3 c =
     let entry = c .before .before .before .before .before .before in

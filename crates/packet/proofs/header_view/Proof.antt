@@ -6,33 +6,22 @@ use mathlib.Core.Path.{sym, ap, _∙_}
 use borrow.Author.Needs.{needs}
 use Rattle.packet.proofs.header_view.Statement.{statement}
 use Rattle.packet.proofs.header_view.Tie as tie
-use Rattle.packet.proofs.header_view.Reads as reads
-use Rattle.packet.proofs.header_view.Lts as lts
-use Rattle.packet.proofs.holds_ipv4.Reads as holds-ipv4-reads
-use Rattle.packet.proofs.ipv4_view.Reads as ipv4-view-reads
-use Rattle.packet.proofs.no_view.Reads as no-view-reads
 
--- src/lib.rt:154:12
 holds-ipv4-requires : tie.Need-holds-ipv4-requires
 holds-ipv4-requires c κs = search needs
 
--- src/lib.rt:155:30
 sub-ipv4-view : tie.Need-sub-ipv4-view
 sub-ipv4-view c = frame-long (now (c .before .before .before .before .args .x)) (sym (c .before .holds-ipv4 .ensures) ∙ c .if2 .taken)
 
--- src/lib.rt:155:30
 part-ipv4-view-start : tie.Need-part-ipv4-view-start
 part-ipv4-view-start c = frame-long (now (c .before .before .before .before .args .x)) (sym (c .before .holds-ipv4 .ensures) ∙ c .if2 .taken)
 
--- src/lib.rt:155:30
 part-ipv4-view-end : tie.Need-part-ipv4-view-end
 part-ipv4-view-end c = search needs
 
--- src/lib.rt:155:13
 ipv4-view-requires : tie.Need-ipv4-view-requires
 ipv4-view-requires c κs = search needs
 
--- src/lib.rt:155:13
 returns : tie.Need-returns
 returns c =
     let at-holds-ipv4 = c .before .before .before in
@@ -40,32 +29,26 @@ returns c =
     let entry = at-if1 .before .before in
     c .ipv4-view .ensures ∙ ap ipv4View (to-end (now (entry .args .x)) 14) ∙ ethernet-ipv4 (now (entry .args .x)) (entry .args .protocol) (at-if1 .if1 .taken) (sym (at-holds-ipv4 .holds-ipv4 .ensures) ∙ c .before .before .if2 .taken)
 
--- src/lib.rt:157:9
 no-view-requires : tie.Need-no-view-requires
 no-view-requires c κs = search needs
 
--- src/lib.rt:157:9
 returns-2 : tie.Need-returns-2
 returns-2 c =
     let at-if1 = c .before .before .before in
     let entry = at-if1 .before .before in
     c .no-view .ensures ∙ ethernet-other (now (entry .args .x)) (entry .args .protocol) (at-if1 .if1 .taken) (sym (c .before .before .holds-ipv4 .ensures) ∙ c .before .if2 .left)
 
--- src/lib.rt:160:9
 ipv4-view-requires-2 : tie.Need-ipv4-view-requires-2
 ipv4-view-requires-2 c κs = search needs
 
--- src/lib.rt:160:9
 returns-3 : tie.Need-returns-3
 returns-3 c =
     let entry = c .before .before .before .before in
     c .ipv4-view2 .ensures ∙ raw-ipv4 (now (entry .args .x)) (entry .args .protocol) (c .before .before .if1 .left) (c .before .if3 .taken)
 
--- src/lib.rt:162:5
 no-view-requires-2 : tie.Need-no-view-requires-2
 no-view-requires-2 c κs = search needs
 
--- src/lib.rt:150:1
 returns-4 : tie.Need-returns-4
 returns-4 c =
     let entry = c .before .before .before .before in

@@ -3,26 +3,19 @@ use denote.Ref.{now}
 use borrow.Author.Needs.{needs}
 use Rattle.packet.proofs.holds_ipv4.Statement.{statement}
 use Rattle.packet.proofs.holds_ipv4.Tie as tie
-use Rattle.packet.proofs.holds_ipv4.Reads as reads
-use Rattle.packet.proofs.holds_ipv4.Lts as lts
 
--- src/lib.rt:141:9
 returns : tie.Need-returns
 returns c = frame-short (now (c .before .args .x)) (c .if1 .taken)
 
--- src/lib.rt:143:8
 shared-slice-read-if2 : tie.Need-shared-slice-read-if2
 shared-slice-read-if2 c = search needs
 
--- src/lib.rt:144:9
 returns-2 : tie.Need-returns-2
 returns-2 c = frame-other (now (c .before .before .before .args .x)) (c .before .before .if1 .left) (c .if2 .taken)
 
--- src/lib.rt:146:5
 shared-slice-read-result : tie.Need-shared-slice-read-result
 shared-slice-read-result c = search needs
 
--- src/lib.rt:137:1
 returns-3 : tie.Need-returns-3
 returns-3 c = frame-tells (now (c .before .before .before .before .args .x)) (c .before .before .before .if1 .left) (c .before .if2 .left)
 

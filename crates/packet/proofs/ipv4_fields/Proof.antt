@@ -3,74 +3,52 @@ use denote.Ref.{now}
 use borrow.Author.Needs.{needs}
 use Rattle.packet.proofs.ipv4_fields.Statement.{statement}
 use Rattle.packet.proofs.ipv4_fields.Tie as tie
-use Rattle.packet.proofs.ipv4_fields.Reads as reads
-use Rattle.packet.proofs.ipv4_fields.Lts as lts
-use Rattle.packet.proofs.ports_behind.Reads as ports-behind-reads
-use Rattle.packet.proofs.size_of.Reads as size-of-reads
-use Rattle.packet.proofs.wide.Reads as wide-reads
-use Rattle.packet.proofs.word_of.Reads as word-of-reads
 
--- src/lib.rt:122:25
 shared-slice-read-wide : tie.Need-shared-slice-read-wide
 shared-slice-read-wide c = search needs
 
--- src/lib.rt:122:9
 wide-requires : tie.Need-wide-requires
 wide-requires c κs = search needs
 
--- src/lib.rt:123:24
 shared-slice-read-size-of : tie.Need-shared-slice-read-size-of
 shared-slice-read-size-of c = search needs
 
--- src/lib.rt:123:9
 size-of-requires : tie.Need-size-of-requires
 size-of-requires c κs = search needs
 
--- src/lib.rt:124:9
 ports-behind-requires : tie.Need-ports-behind-requires
 ports-behind-requires c κs = search needs
 
--- src/lib.rt:127:33
 shared-slice-read-word-of : tie.Need-shared-slice-read-word-of
 shared-slice-read-word-of c = search needs
 
--- src/lib.rt:127:40
 shared-slice-read-word-of-2 : tie.Need-shared-slice-read-word-of-2
 shared-slice-read-word-of-2 c = search needs
 
--- src/lib.rt:127:47
 shared-slice-read-word-of-3 : tie.Need-shared-slice-read-word-of-3
 shared-slice-read-word-of-3 c = search needs
 
--- src/lib.rt:127:54
 shared-slice-read-word-of-4 : tie.Need-shared-slice-read-word-of-4
 shared-slice-read-word-of-4 c = search needs
 
--- src/lib.rt:127:25
 word-of-requires : tie.Need-word-of-requires
 word-of-requires c κs = search needs
 
--- src/lib.rt:128:31
 shared-slice-read-word-of-5 : tie.Need-shared-slice-read-word-of-5
 shared-slice-read-word-of-5 c = search needs
 
--- src/lib.rt:128:38
 shared-slice-read-word-of-6 : tie.Need-shared-slice-read-word-of-6
 shared-slice-read-word-of-6 c = search needs
 
--- src/lib.rt:128:45
 shared-slice-read-word-of-7 : tie.Need-shared-slice-read-word-of-7
 shared-slice-read-word-of-7 c = search needs
 
--- src/lib.rt:128:52
 shared-slice-read-word-of-8 : tie.Need-shared-slice-read-word-of-8
 shared-slice-read-word-of-8 c = search needs
 
--- src/lib.rt:128:23
 word-of-requires-2 : tie.Need-word-of-requires-2
 word-of-requires-2 c κs = search needs
 
--- src/lib.rt:118:1
 returns : tie.Need-returns
 returns c =
     let at-word-of = c .before .before .before .before .before in

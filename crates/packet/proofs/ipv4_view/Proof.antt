@@ -4,31 +4,21 @@ use mathlib.Core.Path.{sym, _∙_}
 use borrow.Author.Needs.{needs}
 use Rattle.packet.proofs.ipv4_view.Statement.{statement}
 use Rattle.packet.proofs.ipv4_view.Tie as tie
-use Rattle.packet.proofs.ipv4_view.Reads as reads
-use Rattle.packet.proofs.ipv4_view.Lts as lts
-use Rattle.packet.proofs.ipv4_fields.Reads as ipv4-fields-reads
-use Rattle.packet.proofs.is_ipv4.Reads as is-ipv4-reads
-use Rattle.packet.proofs.no_view.Reads as no-view-reads
 
--- src/lib.rt:138:8
 is-ipv4-requires : tie.Need-is-ipv4-requires
 is-ipv4-requires c κs = search needs
 
--- src/lib.rt:139:9
 ipv4-fields-requires : tie.Need-ipv4-fields-requires
 ipv4-fields-requires c κs =
     let entry = c .before .before .before in
     (ipv4-long (now (entry .args .x)) (sym (c .before .is-ipv4 .ensures) ∙ c .if1 .taken), ipv4-header (now (entry .args .x)) (sym (c .before .is-ipv4 .ensures) ∙ c .if1 .taken), sym (c .before .is-ipv4 .ensures) ∙ c .if1 .taken)
 
--- src/lib.rt:139:9
 returns : tie.Need-returns
 returns c = c .ipv4-fields .ensures
 
--- src/lib.rt:141:5
 no-view-requires : tie.Need-no-view-requires
 no-view-requires c κs = search needs
 
--- src/lib.rt:135:1
 returns-2 : tie.Need-returns-2
 returns-2 c = c .no-view .ensures ∙ not-ipv4 (now (c .before .before .before .before .args .x)) (sym (c .before .before .is-ipv4 .ensures) ∙ c .before .if1 .left)
 

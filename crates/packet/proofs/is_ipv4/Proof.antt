@@ -3,27 +3,19 @@ use denote.Ref.{now}
 use borrow.Author.Needs.{needs}
 use Rattle.packet.proofs.is_ipv4.Statement.{statement}
 use Rattle.packet.proofs.is_ipv4.Tie as tie
-use Rattle.packet.proofs.is_ipv4.Reads as reads
-use Rattle.packet.proofs.is_ipv4.Lts as lts
-use Rattle.packet.proofs.size_of.Reads as size-of-reads
 
--- src/lib.rt:104:9
 returns : tie.Need-returns
 returns c = too-short (now (c .before .before .args .x)) (c .if1 .taken)
 
--- src/lib.rt:106:17
 shared-slice-read-first : tie.Need-shared-slice-read-first
 shared-slice-read-first c = search needs
 
--- src/lib.rt:107:9
 size-of-requires : tie.Need-size-of-requires
 size-of-requires c κs = search needs
 
--- src/lib.rt:109:9
 returns-2 : tie.Need-returns-2
 returns-2 c = other-version (now (c .before .before .before .before .before .args .x)) (c .before .before .before .if1 .left) (c .if2 .taken)
 
--- src/lib.rt:112:9
 returns-3 : tie.Need-returns-3
 returns-3 c =
     let at-size-of = c .before .before in
@@ -31,7 +23,6 @@ returns-3 c =
     let entry = at-if1 .before .before in
     small-header (now (entry .args .x)) (at-if1 .if1 .left) (c .before .if2 .left) (at-size-of .size-of .result) (at-size-of .size-of .ensures) (c .if3 .taken)
 
--- src/lib.rt:100:1
 returns-4 : tie.Need-returns-4
 returns-4 c =
     let at-size-of = c .before .before in

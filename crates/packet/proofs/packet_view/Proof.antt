@@ -4,40 +4,30 @@ use mathlib.Core.Path.{_∙_}
 use borrow.Author.Needs.{needs}
 use Rattle.packet.proofs.packet_view.Statement.{statement}
 use Rattle.packet.proofs.packet_view.Tie as tie
-use Rattle.packet.proofs.packet_view.Reads as reads
-use Rattle.packet.proofs.packet_view.Lts as lts
-use Rattle.packet.proofs.header_in.Reads as header-in-reads
 
--- src/lib.rt:185:28
 enum-known-packet : tie.Need-enum-known-packet
 enum-known-packet c = search needs
 
--- src/lib.rt:187:13
 header-in-requires : tie.Need-header-in-requires
 header-in-requires c κs = search needs
 
--- src/lib.rt:189:26
 enum-known-packet-2 : tie.Need-enum-known-packet-2
 enum-known-packet-2 c = search needs
 
--- src/lib.rt:199:26
 enum-known-packet-3 : tie.Need-enum-known-packet-3
 enum-known-packet-3 c = search needs
 
--- src/lib.rt:181:1
 returns : tie.Need-returns
 returns c =
     let at-packet = c .before .before .before in
     let entry = at-packet .before .before .before in
     c .header-in .ensures ∙ header-data (now (entry .args .s)) (entry .args .packet) _ (at-packet .packet .given .1)
 
--- src/lib.rt:181:1
 returns-2 : tie.Need-returns-2
 returns-2 c =
     let entry = c .before .before .before .before in
     ipv4-data (now (entry .args .s)) (entry .args .packet) _ (c .before .packet2 .given .1)
 
--- src/lib.rt:181:1
 returns-3 : tie.Need-returns-3
 returns-3 c =
     let entry = c .before .before .before .before in

@@ -6,51 +6,39 @@ use mathlib.Core.Path.{sym, ap, _∙_}
 use Rattle.packet_data.proofs.read_ipv6.Statement.{statement}
 use Rattle.packet_data.proofs.read_ipv6.Tie as tie
 
--- src/lib.rt:135:38
 read-word-requires : tie.Need-read-word-requires
 read-word-requires c κs = search needs
 
--- src/lib.rt:135:24
 enum-known-length : tie.Need-enum-known-length
 enum-known-length c = search needs
 
--- src/lib.rt:136:36
 enum-told : tie.Need-enum-told
 enum-told c = search needs
 
--- src/lib.rt:136:9
 returns : tie.Need-returns
 returns c = sym (ap asPacket (ipv6-reads (word-cut (sym (c .before .before .read-word .ensures) ∙ c .enum-told .given .1))))
 
--- src/lib.rt:138:40
 read-word-requires-2 : tie.Need-read-word-requires-2
 read-word-requires-2 c κs = search needs
 
--- src/lib.rt:138:24
 enum-known-protocol : tie.Need-enum-known-protocol
 enum-known-protocol c = search needs
 
--- src/lib.rt:139:36
 enum-told-2 : tie.Need-enum-told-2
 enum-told-2 c = search needs
 
--- src/lib.rt:139:9
 returns-2 : tie.Need-returns-2
 returns-2 c = sym (ap asPacket (ipv6-reads (word-then (sym (c .before .before .before .before .before .before .read-word .ensures) ∙ c .before .before .before .before .length .given .1) (word-cut (sym (c .before .before .read-word2 .ensures) ∙ c .enum-told2 .given .1)))))
 
--- src/lib.rt:141:46
 read-quad-requires : tie.Need-read-quad-requires
 read-quad-requires c κs = search needs
 
--- src/lib.rt:141:24
 enum-known-sa : tie.Need-enum-known-sa
 enum-known-sa c = search needs
 
--- src/lib.rt:142:36
 enum-told-3 : tie.Need-enum-told-3
 enum-told-3 c = search needs
 
--- src/lib.rt:142:9
 returns-3 : tie.Need-returns-3
 returns-3 c =
     let at-protocol = c .before .before .before .before in
@@ -59,19 +47,15 @@ returns-3 c =
     let at-read-word = at-length .before .before in
     sym (ap asPacket (ipv6-reads (word-then (sym (at-read-word .read-word .ensures) ∙ at-length .length .given .1) (word-then (sym (at-read-word2 .read-word2 .ensures) ∙ at-protocol .protocol .given .1) (quad-cut (sym (c .before .before .read-quad .ensures) ∙ c .enum-told3 .given .1))))))
 
--- src/lib.rt:144:46
 read-quad-requires-2 : tie.Need-read-quad-requires-2
 read-quad-requires-2 c κs = search needs
 
--- src/lib.rt:144:24
 enum-known-da : tie.Need-enum-known-da
 enum-known-da c = search needs
 
--- src/lib.rt:145:36
 enum-told-4 : tie.Need-enum-told-4
 enum-told-4 c = search needs
 
--- src/lib.rt:145:9
 returns-4 : tie.Need-returns-4
 returns-4 c =
     let at-sa = c .before .before .before .before in
@@ -82,19 +66,15 @@ returns-4 c =
     let at-read-word = at-length .before .before in
     sym (ap asPacket (ipv6-reads (word-then (sym (at-read-word .read-word .ensures) ∙ at-length .length .given .1) (word-then (sym (at-read-word2 .read-word2 .ensures) ∙ at-protocol .protocol .given .1) (quad-then (sym (at-read-quad .read-quad .ensures) ∙ at-sa .sa .given .1) (quad-cut (sym (c .before .before .read-quad2 .ensures) ∙ c .enum-told4 .given .1)))))))
 
--- src/lib.rt:147:40
 read-word-requires-3 : tie.Need-read-word-requires-3
 read-word-requires-3 c κs = search needs
 
--- src/lib.rt:147:24
 enum-known-src-port : tie.Need-enum-known-src-port
 enum-known-src-port c = search needs
 
--- src/lib.rt:148:36
 enum-told-5 : tie.Need-enum-told-5
 enum-told-5 c = search needs
 
--- src/lib.rt:148:9
 returns-5 : tie.Need-returns-5
 returns-5 c =
     let at-da = c .before .before .before .before in
@@ -107,19 +87,15 @@ returns-5 c =
     let at-read-word = at-length .before .before in
     sym (ap asPacket (ipv6-reads (word-then (sym (at-read-word .read-word .ensures) ∙ at-length .length .given .1) (word-then (sym (at-read-word2 .read-word2 .ensures) ∙ at-protocol .protocol .given .1) (quad-then (sym (at-read-quad .read-quad .ensures) ∙ at-sa .sa .given .1) (quad-then (sym (at-read-quad2 .read-quad2 .ensures) ∙ at-da .da .given .1) (word-cut (sym (c .before .before .read-word3 .ensures) ∙ c .enum-told5 .given .1))))))))
 
--- src/lib.rt:150:40
 read-word-requires-4 : tie.Need-read-word-requires-4
 read-word-requires-4 c κs = search needs
 
--- src/lib.rt:150:24
 enum-known-dst-port : tie.Need-enum-known-dst-port
 enum-known-dst-port c = search needs
 
--- src/lib.rt:151:36
 enum-told-6 : tie.Need-enum-told-6
 enum-told-6 c = search needs
 
--- src/lib.rt:151:9
 returns-6 : tie.Need-returns-6
 returns-6 c =
     let at-src-port = c .before .before .before .before in
@@ -134,19 +110,15 @@ returns-6 c =
     let at-read-word = at-length .before .before in
     sym (ap asPacket (ipv6-reads (word-then (sym (at-read-word .read-word .ensures) ∙ at-length .length .given .1) (word-then (sym (at-read-word2 .read-word2 .ensures) ∙ at-protocol .protocol .given .1) (quad-then (sym (at-read-quad .read-quad .ensures) ∙ at-sa .sa .given .1) (quad-then (sym (at-read-quad2 .read-quad2 .ensures) ∙ at-da .da .given .1) (word-then (sym (at-read-word3 .read-word3 .ensures) ∙ at-src-port .src-port .given .1) (word-cut (sym (c .before .before .read-word4 .ensures) ∙ c .enum-told6 .given .1)))))))))
 
--- src/lib.rt:153:41
 read-word-requires-5 : tie.Need-read-word-requires-5
 read-word-requires-5 c κs = search needs
 
--- src/lib.rt:153:24
 enum-known-tcp-flags : tie.Need-enum-known-tcp-flags
 enum-known-tcp-flags c = search needs
 
--- src/lib.rt:154:36
 enum-told-7 : tie.Need-enum-told-7
 enum-told-7 c = search needs
 
--- src/lib.rt:154:9
 returns-7 : tie.Need-returns-7
 returns-7 c =
     let at-dst-port = c .before .before .before .before in
@@ -163,19 +135,15 @@ returns-7 c =
     let at-read-word = at-length .before .before in
     sym (ap asPacket (ipv6-reads (word-then (sym (at-read-word .read-word .ensures) ∙ at-length .length .given .1) (word-then (sym (at-read-word2 .read-word2 .ensures) ∙ at-protocol .protocol .given .1) (quad-then (sym (at-read-quad .read-quad .ensures) ∙ at-sa .sa .given .1) (quad-then (sym (at-read-quad2 .read-quad2 .ensures) ∙ at-da .da .given .1) (word-then (sym (at-read-word3 .read-word3 .ensures) ∙ at-src-port .src-port .given .1) (word-then (sym (at-read-word4 .read-word4 .ensures) ∙ at-dst-port .dst-port .given .1) (word-cut (sym (c .before .before .read-word5 .ensures) ∙ c .enum-told7 .given .1))))))))))
 
--- src/lib.rt:156:42
 read-word-requires-6 : tie.Need-read-word-requires-6
 read-word-requires-6 c κs = search needs
 
--- src/lib.rt:156:24
 enum-known-priority : tie.Need-enum-known-priority
 enum-known-priority c = search needs
 
--- src/lib.rt:157:36
 enum-told-8 : tie.Need-enum-told-8
 enum-told-8 c = search needs
 
--- src/lib.rt:157:9
 returns-8 : tie.Need-returns-8
 returns-8 c =
     let at-tcp-flags = c .before .before .before .before in
@@ -194,15 +162,12 @@ returns-8 c =
     let at-read-word = at-length .before .before in
     sym (ap asPacket (ipv6-reads (word-then (sym (at-read-word .read-word .ensures) ∙ at-length .length .given .1) (word-then (sym (at-read-word2 .read-word2 .ensures) ∙ at-protocol .protocol .given .1) (quad-then (sym (at-read-quad .read-quad .ensures) ∙ at-sa .sa .given .1) (quad-then (sym (at-read-quad2 .read-quad2 .ensures) ∙ at-da .da .given .1) (word-then (sym (at-read-word3 .read-word3 .ensures) ∙ at-src-port .src-port .given .1) (word-then (sym (at-read-word4 .read-word4 .ensures) ∙ at-dst-port .dst-port .given .1) (word-then (sym (at-read-word5 .read-word5 .ensures) ∙ at-tcp-flags .tcp-flags .given .1) (word-cut (sym (c .before .before .read-word6 .ensures) ∙ c .enum-told8 .given .1)))))))))))
 
--- src/lib.rt:159:9
 quad-requires : tie.Need-quad-requires
 quad-requires c κs = search needs
 
--- src/lib.rt:160:9
 quad-requires-2 : tie.Need-quad-requires-2
 quad-requires-2 c κs = search needs
 
--- src/lib.rt:132:1
 returns-9 : tie.Need-returns-9
 returns-9 c = rw (c .before .quad .ensures, c .quad2 .ensures) (sym (ap asPacket (ipv6-reads (word-then (sym (c .before .before .before .before .before .before .before .before .before .before .before .before .before .before .before .before .before .before .before .before .before .before .before .before .before .before .before .before .before .before .before .before .before .read-word .ensures) ∙ c .before .before .before .before .before .before .before .before .before .before .before .before .before .before .before .before .before .before .before .before .before .before .before .before .before .before .before .before .before .before .before .length .given .1) (word-then (sym (c .before .before .before .before .before .before .before .before .before .before .before .before .before .before .before .before .before .before .before .before .before .before .before .before .before .before .before .before .before .read-word2 .ensures) ∙ c .before .before .before .before .before .before .before .before .before .before .before .before .before .before .before .before .before .before .before .before .before .before .before .before .before .before .before .protocol .given .1) (quad-then (sym (c .before .before .before .before .before .before .before .before .before .before .before .before .before .before .before .before .before .before .before .before .before .before .before .before .before .read-quad .ensures) ∙ c .before .before .before .before .before .before .before .before .before .before .before .before .before .before .before .before .before .before .before .before .before .before .before .sa .given .1) (quad-then (sym (c .before .before .before .before .before .before .before .before .before .before .before .before .before .before .before .before .before .before .before .before .before .read-quad2 .ensures) ∙ c .before .before .before .before .before .before .before .before .before .before .before .before .before .before .before .before .before .before .before .da .given .1) (word-then (sym (c .before .before .before .before .before .before .before .before .before .before .before .before .before .before .before .before .before .read-word3 .ensures) ∙ c .before .before .before .before .before .before .before .before .before .before .before .before .before .before .before .src-port .given .1) (word-then (sym (c .before .before .before .before .before .before .before .before .before .before .before .before .before .read-word4 .ensures) ∙ c .before .before .before .before .before .before .before .before .before .before .before .dst-port .given .1) (word-then (sym (c .before .before .before .before .before .before .before .before .before .read-word5 .ensures) ∙ c .before .before .before .before .before .before .before .tcp-flags .given .1) (word-then (sym (c .before .before .before .before .before .read-word6 .ensures) ∙ c .before .before .before .priority .given .1) no-more)))))))) ∙ ipv6-whole _ _ _ _ _ _ _ _ _ _ _ _ _ _ _ (search (needs, c .before .before .before .before .before .before .before .before .before .before .before .before .before .before .before .before .before .before .before .before .before .before .known-told3 .given)) (search (needs, c .before .before .before .before .before .before .before .before .before .before .before .before .before .before .before .before .before .before .before .before .before .before .known-told3 .given)) (search (needs, c .before .before .before .before .before .before .before .before .before .before .before .before .before .before .before .before .before .before .before .before .before .before .known-told3 .given)) (search (needs, c .before .before .before .before .before .before .before .before .before .before .before .before .before .before .before .before .before .before .before .before .before .before .known-told3 .given)) (search (needs, c .before .before .before .before .before .before .before .before .before .before .before .before .before .before .before .before .before .before .known-told4 .given)) (search (needs, c .before .before .before .before .before .before .before .before .before .before .before .before .before .before .before .before .before .before .known-told4 .given)) (search (needs, c .before .before .before .before .before .before .before .before .before .before .before .before .before .before .before .before .before .before .known-told4 .given)) (search (needs, c .before .before .before .before .before .before .before .before .before .before .before .before .before .before .before .before .before .before .known-told4 .given)))))
 

@@ -3,8 +3,6 @@ use mathlib.Core.Path.{sym}
 use Rattle.rules.proofs.Opcodes.{unknown}
 use Rattle.rules.proofs.action_of.Statement.{statement}
 use Rattle.rules.proofs.action_of.Tie as tie
-use Rattle.rules.proofs.action_of.Reads as reads
-use Rattle.rules.proofs.action_of.Lts as lts
 
 returns : tie.Need-returns
 unfolding actionOf

@@ -3,39 +3,28 @@ use denote.Ref.{now}
 use borrow.Author.Needs.{needs}
 use Rattle.rules.proofs.declared_in.Statement.{statement}
 use Rattle.rules.proofs.declared_in.Tie as tie
-use Rattle.rules.proofs.declared_in.Reads as reads
-use Rattle.rules.proofs.declared_in.Lts as lts
-use Rattle.rules.proofs.number_of.Reads as number-of-reads
 
--- src/lib.rt:193:27
 add-number-of : tie.Need-add-number-of
 add-number-of c = search needs
 
--- src/lib.rt:193:25
 shared-slice-read-number-of : tie.Need-shared-slice-read-number-of
 shared-slice-read-number-of c = search needs
 
--- src/lib.rt:193:15
 number-of-requires : tie.Need-number-of-requires
 number-of-requires c κs = search needs
 
--- src/lib.rt:194:18
 add-t7 : tie.Need-add-t7
 add-t7 c = search needs
 
--- src/lib.rt:194:16
 shared-slice-read-t9 : tie.Need-shared-slice-read-t9
 shared-slice-read-t9 c = search needs
 
--- src/lib.rt:195:17
 add-t10 : tie.Need-add-t10
 add-t10 c = search needs
 
--- src/lib.rt:195:15
 shared-slice-read-t12 : tie.Need-shared-slice-read-t12
 shared-slice-read-t12 c = search needs
 
--- src/lib.rt:188:1
 returns : tie.Need-returns
 returns c =
     let at-number-of = c .before .before in

@@ -4,62 +4,44 @@ use mathlib.Core.Path.{_∙_}
 use borrow.Author.Needs.{needs}
 use Rattle.rules.proofs.record_at.Statement.{statement}
 use Rattle.rules.proofs.record_at.Tie as tie
-use Rattle.rules.proofs.record_at.Reads as reads
-use Rattle.rules.proofs.record_at.Lts as lts
-use Rattle.rules.proofs.declared_in.Reads as declared-in-reads
-use Rattle.rules.proofs.no_record.Reads as no-record-reads
-use Rattle.rules.proofs.pair_of.Reads as pair-of-reads
-use Rattle.rules.proofs.rule_in.Reads as rule-in-reads
 
--- src/lib.rt:204:9
 no-record-requires : tie.Need-no-record-requires
 no-record-requires c κs = search needs
 
--- src/lib.rt:204:9
 returns : tie.Need-returns
 returns c =
     let entry = c .before .before .before in
     c .no-record .ensures ∙ no-zeroth (now (entry .args .s)) (entry .args .i) (c .before .if1 .taken)
 
--- src/lib.rt:207:9
 no-record-requires-2 : tie.Need-no-record-requires-2
 no-record-requires-2 c κs = search needs
 
--- src/lib.rt:207:9
 returns-2 : tie.Need-returns-2
 returns-2 c =
     let entry = c .before .before .before .before in
     c .no-record2 .ensures ∙ none-behind (now (entry .args .s)) (entry .args .i) (c .before .before .if1 .left) (c .before .if2 .taken)
 
--- src/lib.rt:209:14
 mul-at : tie.Need-mul-at
 mul-at c = search needs
 
--- src/lib.rt:210:24
 shared-slice-read-pair-of : tie.Need-shared-slice-read-pair-of
 shared-slice-read-pair-of c = search needs
 
--- src/lib.rt:210:33
 add-pair-of : tie.Need-add-pair-of
 add-pair-of c = search needs
 
--- src/lib.rt:210:31
 shared-slice-read-pair-of-2 : tie.Need-shared-slice-read-pair-of-2
 shared-slice-read-pair-of-2 c = search needs
 
--- src/lib.rt:210:9
 pair-of-requires : tie.Need-pair-of-requires
 pair-of-requires c κs = search needs
 
--- src/lib.rt:211:9
 rule-in-requires : tie.Need-rule-in-requires
 rule-in-requires c κs = search needs
 
--- src/lib.rt:212:9
 declared-in-requires : tie.Need-declared-in-requires
 declared-in-requires c κs = search needs
 
--- src/lib.rt:200:1
 returns-3 : tie.Need-returns-3
 returns-3 c =
     let at-pair-of = c .before .before in

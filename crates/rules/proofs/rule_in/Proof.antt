@@ -3,112 +3,82 @@ use denote.Ref.{now}
 use borrow.Author.Needs.{needs}
 use Rattle.rules.proofs.rule_in.Statement.{statement}
 use Rattle.rules.proofs.rule_in.Tie as tie
-use Rattle.rules.proofs.rule_in.Reads as reads
-use Rattle.rules.proofs.rule_in.Lts as lts
-use Rattle.rules.proofs.number_of.Reads as number-of-reads
-use Rattle.rules.proofs.word_of.Reads as word-of-reads
 
--- src/lib.rt:179:22
 add-t3 : tie.Need-add-t3
 add-t3 c = search needs
 
--- src/lib.rt:179:20
 shared-slice-read-t5 : tie.Need-shared-slice-read-t5
 shared-slice-read-t5 c = search needs
 
--- src/lib.rt:180:19
 add-t6 : tie.Need-add-t6
 add-t6 c = search needs
 
--- src/lib.rt:180:17
 shared-slice-read-t8 : tie.Need-shared-slice-read-t8
 shared-slice-read-t8 c = search needs
 
--- src/lib.rt:181:25
 add-word-of : tie.Need-add-word-of
 add-word-of c = search needs
 
--- src/lib.rt:181:23
 shared-slice-read-word-of : tie.Need-shared-slice-read-word-of
 shared-slice-read-word-of c = search needs
 
--- src/lib.rt:181:36
 add-word-of-2 : tie.Need-add-word-of-2
 add-word-of-2 c = search needs
 
--- src/lib.rt:181:34
 shared-slice-read-word-of-2 : tie.Need-shared-slice-read-word-of-2
 shared-slice-read-word-of-2 c = search needs
 
--- src/lib.rt:181:47
 add-word-of-3 : tie.Need-add-word-of-3
 add-word-of-3 c = search needs
 
--- src/lib.rt:181:45
 shared-slice-read-word-of-3 : tie.Need-shared-slice-read-word-of-3
 shared-slice-read-word-of-3 c = search needs
 
--- src/lib.rt:181:58
 add-word-of-4 : tie.Need-add-word-of-4
 add-word-of-4 c = search needs
 
--- src/lib.rt:181:56
 shared-slice-read-word-of-4 : tie.Need-shared-slice-read-word-of-4
 shared-slice-read-word-of-4 c = search needs
 
--- src/lib.rt:181:15
 word-of-requires : tie.Need-word-of-requires
 word-of-requires c κs = search needs
 
--- src/lib.rt:182:26
 add-word-of-5 : tie.Need-add-word-of-5
 add-word-of-5 c = search needs
 
--- src/lib.rt:182:24
 shared-slice-read-word-of-5 : tie.Need-shared-slice-read-word-of-5
 shared-slice-read-word-of-5 c = search needs
 
--- src/lib.rt:182:37
 add-word-of-6 : tie.Need-add-word-of-6
 add-word-of-6 c = search needs
 
--- src/lib.rt:182:35
 shared-slice-read-word-of-6 : tie.Need-shared-slice-read-word-of-6
 shared-slice-read-word-of-6 c = search needs
 
--- src/lib.rt:182:48
 add-word-of-7 : tie.Need-add-word-of-7
 add-word-of-7 c = search needs
 
--- src/lib.rt:182:46
 shared-slice-read-word-of-7 : tie.Need-shared-slice-read-word-of-7
 shared-slice-read-word-of-7 c = search needs
 
--- src/lib.rt:182:60
 add-word-of-8 : tie.Need-add-word-of-8
 add-word-of-8 c = search needs
 
--- src/lib.rt:182:58
 shared-slice-read-word-of-8 : tie.Need-shared-slice-read-word-of-8
 shared-slice-read-word-of-8 c = search needs
 
--- src/lib.rt:182:16
 word-of-requires-2 : tie.Need-word-of-requires-2
 word-of-requires-2 c κs = search needs
 
--- src/lib.rt:183:32
 add-number-of : tie.Need-add-number-of
 add-number-of c = search needs
 
--- src/lib.rt:183:30
 shared-slice-read-number-of : tie.Need-shared-slice-read-number-of
 shared-slice-read-number-of c = search needs
 
--- src/lib.rt:183:20
 number-of-requires : tie.Need-number-of-requires
 number-of-requires c κs = search needs
 
--- src/lib.rt:174:1
 returns : tie.Need-returns
 returns c =
     let at-word-of2 = c .before .before in

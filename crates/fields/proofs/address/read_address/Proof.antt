@@ -5,35 +5,27 @@ use Rattle.fields.proofs.Addresses.{address-cut, address-v4, address-v4
 use Rattle.fields.proofs.address.read_address.Statement.{statement}
 use Rattle.fields.proofs.address.read_address.Tie as tie
 
--- src/address.rt:32:39
 read-word-requires : tie.Need-read-word-requires
 read-word-requires c κs = search needs
 
--- src/address.rt:32:24
 enum-known-kind : tie.Need-enum-known-kind
 enum-known-kind c = search needs
 
--- src/address.rt:33:37
 enum-told : tie.Need-enum-told
 enum-told c = search needs
 
--- src/address.rt:33:9
 returns : tie.Need-returns
 returns c = sym (ap asAddress (address-cut _ _ _ (sym (c .before .before .read-word .ensures) ∙ c .enum-told .given .1)))
 
--- src/address.rt:36:39
 read-word-requires-2 : tie.Need-read-word-requires-2
 read-word-requires-2 c κs = search needs
 
--- src/address.rt:36:28
 enum-known-a : tie.Need-enum-known-a
 enum-known-a c = search needs
 
--- src/address.rt:37:41
 enum-told-2 : tie.Need-enum-told-2
 enum-told-2 c = search needs
 
--- src/address.rt:37:13
 returns-2 : tie.Need-returns-2
 returns-2 c =
     let at-if1 = c .before .before .before in
@@ -41,7 +33,6 @@ returns-2 c =
     let at-read-word = at-kind .before .before in
     sym (ap asAddress (address-v4-cut _ _ _ _ _ (sym (at-read-word .read-word .ensures) ∙ at-kind .kind .given .1) (at-if1 .if1 .taken) (sym (c .before .before .read-word2 .ensures) ∙ c .enum-told2 .given .1)))
 
--- src/address.rt:39:9
 returns-3 : tie.Need-returns-3
 returns-3 c =
     let at-read-word2 = c .before .before .before in
@@ -50,19 +41,15 @@ returns-3 c =
     let at-read-word = at-kind .before .before in
     sym (ap asAddress (address-v4 _ _ _ _ _ _ (sym (at-read-word .read-word .ensures) ∙ at-kind .kind .given .1) (at-if1 .if1 .taken) (sym (at-read-word2 .read-word2 .ensures) ∙ c .before .a .given .1)))
 
--- src/address.rt:53:48
 read-quad-requires : tie.Need-read-quad-requires
 read-quad-requires c κs = search needs
 
--- src/address.rt:53:28
 enum-known-a-2 : tie.Need-enum-known-a-2
 enum-known-a-2 c = search needs
 
--- src/address.rt:54:41
 enum-told-3 : tie.Need-enum-told-3
 enum-told-3 c = search needs
 
--- src/address.rt:54:13
 returns-4 : tie.Need-returns-4
 returns-4 c =
     let at-if2 = c .before .before .before in
@@ -70,7 +57,6 @@ returns-4 c =
     let at-read-word = at-kind .before .before in
     sym (ap asAddress (address-v6-cut _ _ _ _ _ (sym (at-read-word .read-word .ensures) ∙ at-kind .kind .given .1) (at-if2 .if2 .taken) (sym (c .before .before .read-quad .ensures) ∙ c .enum-told3 .given .1)))
 
--- src/address.rt:56:9
 returns-5 : tie.Need-returns-5
 returns-5 c =
     let at-read-quad = c .before .before .before in
@@ -79,7 +65,6 @@ returns-5 c =
     let at-read-word = at-kind .before .before in
     sym (ap asAddress (address-v6 _ _ _ _ _ _ _ _ _ (search needs) (search needs) (search needs) (search needs) (sym (at-read-word .read-word .ensures) ∙ at-kind .kind .given .1) (at-if2 .if2 .taken) (sym (at-read-quad .read-quad .ensures) ∙ c .before .a2 .given .1)))
 
--- src/address.rt:29:1
 returns-6 : tie.Need-returns-6
 returns-6 c = sym (ap asAddress (address-other _ _ _ _ (sym (c .before .before .before .before .before .read-word .ensures) ∙ c .before .before .before .kind .given .1) (c .before .if1 .left) (c .if2 .left)))
 

@@ -3,31 +3,24 @@ use mathlib.Core.Path.{sym, _∙_}
 use Rattle.fields.proofs.strings.pass_octets.Statement.{statement}
 use Rattle.fields.proofs.strings.pass_octets.Tie as tie
 
--- src/strings.rt:34:11
 read-padded-requires : tie.Need-read-padded-requires
 read-padded-requires c κs = search needs
 
--- src/strings.rt:35:28
 enum-known-next : tie.Need-enum-known-next
 enum-known-next c = search needs
 
--- src/strings.rt:36:31
 enum-known-p : tie.Need-enum-known-p
 enum-known-p c = search needs
 
--- src/strings.rt:37:36
 enum-known-p-2 : tie.Need-enum-known-p-2
 enum-known-p-2 c = search needs
 
--- src/strings.rt:31:1
 returns : tie.Need-returns
 returns c = rw (sym (c .before .before .before .read-padded .ensures) ∙ c .before .next .given .1)
 
--- src/strings.rt:31:1
 returns-2 : tie.Need-returns-2
 returns-2 c = rw (sym (c .before .before .before .read-padded .ensures) ∙ c .before .p .given .1)
 
--- src/strings.rt:31:1
 returns-3 : tie.Need-returns-3
 returns-3 c = rw (sym (c .before .before .before .read-padded .ensures) ∙ c .before .p2 .given .1)
 

@@ -6,35 +6,27 @@ use mathlib.Core.Path.{sym, ap, _∙_}
 use Rattle.fields.proofs.strings.read_string.Statement.{statement}
 use Rattle.fields.proofs.strings.read_string.Tie as tie
 
--- src/strings.rt:45:41
 read-word-requires : tie.Need-read-word-requires
 read-word-requires c κs = search needs
 
--- src/strings.rt:45:24
 enum-known-length : tie.Need-enum-known-length
 enum-known-length c = search needs
 
--- src/strings.rt:46:36
 enum-told : tie.Need-enum-told
 enum-told c = search needs
 
--- src/strings.rt:46:9
 returns : tie.Need-returns
 returns c = sym (ap asString (string-cut _ _ _ _ (sym (c .before .before .read-word .ensures) ∙ c .enum-told .given .1)))
 
--- src/strings.rt:48:11
 pass-octets-requires : tie.Need-pass-octets-requires
 pass-octets-requires c κs = search needs
 
--- src/strings.rt:49:22
 enum-known-next : tie.Need-enum-known-next
 enum-known-next c = search needs
 
--- src/strings.rt:50:25
 enum-known-why : tie.Need-enum-known-why
 enum-known-why c = search needs
 
--- src/strings.rt:42:1
 returns-2 : tie.Need-returns-2
 returns-2 c =
     let at-pass-octets = c .before .before .before in
@@ -42,7 +34,6 @@ returns-2 c =
     let at-read-word = at-length .before .before in
     sym (ap asString (text-found _ _ _ _ _ (sym (at-read-word .read-word .ensures) ∙ at-length .length .given .1) (sym (at-pass-octets .pass-octets .ensures) ∙ c .before .next .given .1)))
 
--- src/strings.rt:42:1
 returns-3 : tie.Need-returns-3
 returns-3 c =
     let at-pass-octets = c .before .before .before in

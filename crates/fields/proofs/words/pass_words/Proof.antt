@@ -5,39 +5,30 @@ use mathlib.Core.Path.{sym}
 use Rattle.fields.proofs.words.pass_words.Statement.{statement}
 use Rattle.fields.proofs.words.pass_words.Tie as tie
 
--- src/words.rt:21:9
 returns : tie.Need-returns
 returns c = sym (passed-end _ _ _ (omega arith))
 
--- src/words.rt:24:9
 returns-2 : tie.Need-returns-2
 returns-2 c = sym (words-missing _ _ _ (omega arith) (c .if2 .taken))
 
--- src/words.rt:26:16
 sub-left : tie.Need-sub-left
 sub-left c = search needs
 
--- src/words.rt:27:17
 mul-whole : tie.Need-mul-whole
 mul-whole c = search needs
 
--- src/words.rt:29:58
 mul-t11 : tie.Need-mul-t11
 mul-t11 c = search needs
 
--- src/words.rt:29:50
 add-t12 : tie.Need-add-t12
 add-t12 c = search needs
 
--- src/words.rt:29:9
 returns-3 : tie.Need-returns-3
 returns-3 c = sym (words-cut _ _ _ (search needs) (omega arith))
 
--- src/words.rt:31:18
 add-t7 : tie.Need-add-t7
 add-t7 c = search needs
 
--- src/words.rt:17:1
 returns-4 : tie.Need-returns-4
 returns-4 c = sym (words-whole _ _ _ (omega arith))
 

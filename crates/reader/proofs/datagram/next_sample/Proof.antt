@@ -5,38 +5,30 @@ use mathlib.Core.Path.{sym, _∙_}
 use Rattle.reader.proofs.datagram.next_sample.Statement.{statement}
 use Rattle.reader.proofs.datagram.next_sample.Tie as tie
 
--- src/datagram.rt:136:13
 returns : tie.Need-returns
 unfolding stepAt
 returns c = rw (eq-eqb _ 0 (c .before .if1 .taken), lt-ltb _ _ (c .if2 .taken))
 
--- src/datagram.rt:138:9
 returns-2 : tie.Need-returns-2
 unfolding stepAt
 returns-2 c = rw (eq-eqb _ 0 (c .before .if1 .taken), le-ltb _ _ (c .if2 .left))
 
--- src/datagram.rt:140:11
 read-sample-requires : tie.Need-read-sample-requires
 read-sample-requires c κs = search needs
 
--- src/datagram.rt:141:29
 enum-known-why : tie.Need-enum-known-why
 enum-known-why c = search needs
 
--- src/datagram.rt:142:27
 enum-known-sample : tie.Need-enum-known-sample
 enum-known-sample c = search needs
 
--- src/datagram.rt:142:89
 sub-t15 : tie.Need-sub-t15
 sub-t15 c = search needs
 
--- src/datagram.rt:129:1
 returns-3 : tie.Need-returns-3
 unfolding stepAt
 returns-3 c = rw (ne-eqb _ 0 (c .before .before .before .before .if1 .left), sym (c .before .before .before .read-sample .ensures) ∙ c .before .why .given .1)
 
--- src/datagram.rt:129:1
 returns-4 : tie.Need-returns-4
 unfolding stepAt
 returns-4 c = rw (ne-eqb _ 0 (c .before .before .before .before .if1 .left), sym (c .before .before .before .read-sample .ensures) ∙ c .before .sample .given .1)

@@ -4,35 +4,27 @@ use mathlib.Core.Path.{sym, _∙_}
 use Rattle.reader.proofs.datagram.read.Statement.{statement}
 use Rattle.reader.proofs.datagram.read.Tie as tie
 
--- src/datagram.rt:92:9
 read-head-requires : tie.Need-read-head-requires
 read-head-requires c κs = search needs
 
--- src/datagram.rt:93:25
 enum-known-start : tie.Need-enum-known-start
 enum-known-start c = search needs
 
--- src/datagram.rt:94:9
 enum-told : tie.Need-enum-told
 enum-told c = search needs
 
--- src/datagram.rt:94:9
 returns : tie.Need-returns
 returns c = c .enum-told .given .1 ∙ sym (answer-head-refused _ _ _ (sym (c .before .before .read-head .ensures) ∙ c .enum-told .given .1))
 
--- src/datagram.rt:96:11
 pass-samples-requires : tie.Need-pass-samples-requires
 pass-samples-requires c κs = search needs
 
--- src/datagram.rt:97:25
 enum-known-why : tie.Need-enum-known-why
 enum-known-why c = search needs
 
--- src/datagram.rt:98:22
 enum-known-end : tie.Need-enum-known-end
 enum-known-end c = search needs
 
--- src/datagram.rt:100:17
 returns-2 : tie.Need-returns-2
 returns-2 c =
     let at-pass-samples = c .before .before .before .before in
@@ -40,7 +32,6 @@ returns-2 c =
     let at-read-head = at-start .before .before in
     sym (answer-trailing _ _ (sym (at-read-head .read-head .ensures) ∙ at-start .start .given .1) _ (sym (at-pass-samples .pass-samples .ensures) ∙ c .before .before .end .given .1) (c .if1 .taken))
 
--- src/datagram.rt:89:1
 returns-3 : tie.Need-returns-3
 returns-3 c =
     let at-pass-samples = c .before .before .before in
@@ -48,7 +39,6 @@ returns-3 c =
     let at-read-head = at-start .before .before in
     sym (answer-samples-refused _ _ (sym (at-read-head .read-head .ensures) ∙ at-start .start .given .1) _ _ (sym (at-pass-samples .pass-samples .ensures) ∙ c .before .why .given .1))
 
--- src/datagram.rt:89:1
 returns-4 : tie.Need-returns-4
 returns-4 c =
     let at-pass-samples = c .before .before .before .before in

@@ -5,55 +5,42 @@ use mathlib.Core.Path.{sym, ap, _∙_}
 use Rattle.reader.proofs.datagram.read_head.Statement.{statement}
 use Rattle.reader.proofs.datagram.read_head.Tie as tie
 
--- src/datagram.rt:36:9
 returns : tie.Need-returns
 returns c = sym (ap asHead (head-long _ (c .if1 .taken)))
 
--- src/datagram.rt:38:45
 read-word-requires : tie.Need-read-word-requires
 read-word-requires c κs = search needs
 
--- src/datagram.rt:38:24
 enum-known-version : tie.Need-enum-known-version
 enum-known-version c = search needs
 
--- src/datagram.rt:39:34
 enum-told : tie.Need-enum-told
 enum-told c = search needs
 
--- src/datagram.rt:39:9
 returns-2 : tie.Need-returns-2
 returns-2 c = sym (ap asHead (head-cut _ (c .before .before .before .if1 .left) _ (sym (c .before .before .read-word .ensures) ∙ c .enum-told .given .1)))
 
--- src/datagram.rt:42:9
 returns-3 : tie.Need-returns-3
 returns-3 c = sym (ap asHead (head-version _ (c .before .before .before .before .before .if1 .left) _ _ (sym (c .before .before .before .before .read-word .ensures) ∙ c .before .before .version .given .1) (c .if2 .taken)))
 
--- src/datagram.rt:44:11
 read-address-requires : tie.Need-read-address-requires
 read-address-requires c κs = search needs
 
--- src/datagram.rt:45:30
 enum-known-why : tie.Need-enum-known-why
 enum-known-why c = search needs
 
--- src/datagram.rt:46:28
 enum-known-agent : tie.Need-enum-known-agent
 enum-known-agent c = search needs
 
--- src/datagram.rt:47:55
 read-word-requires-2 : tie.Need-read-word-requires-2
 read-word-requires-2 c κs = search needs
 
--- src/datagram.rt:47:32
 enum-known-sequence-number : tie.Need-enum-known-sequence-number
 enum-known-sequence-number c = search needs
 
--- src/datagram.rt:48:42
 enum-told-2 : tie.Need-enum-told-2
 enum-told-2 c = search needs
 
--- src/datagram.rt:48:17
 returns-4 : tie.Need-returns-4
 returns-4 c =
     let at-agent = c .before .before .before .before in
@@ -64,19 +51,15 @@ returns-4 c =
     let at-if1 = at-read-word .before in
     sym (ap asHead (head-cut-1 _ (at-if1 .if1 .left) _ _ (sym (at-read-word .read-word .ensures) ∙ at-version .version .given .1) (at-if2 .if2 .left) _ _ (sym (at-read-address .read-address .ensures) ∙ at-agent .agent .given .1) _ (sym (c .before .before .read-word2 .ensures) ∙ c .enum-told2 .given .1)))
 
--- src/datagram.rt:50:46
 read-word-requires-3 : tie.Need-read-word-requires-3
 read-word-requires-3 c κs = search needs
 
--- src/datagram.rt:50:32
 enum-known-uptime : tie.Need-enum-known-uptime
 enum-known-uptime c = search needs
 
--- src/datagram.rt:51:42
 enum-told-3 : tie.Need-enum-told-3
 enum-told-3 c = search needs
 
--- src/datagram.rt:51:17
 returns-5 : tie.Need-returns-5
 returns-5 c =
     let at-sequence-number = c .before .before .before .before in
@@ -89,19 +72,15 @@ returns-5 c =
     let at-if1 = at-read-word .before in
     sym (ap asHead (head-cut-2 _ (at-if1 .if1 .left) _ _ (sym (at-read-word .read-word .ensures) ∙ at-version .version .given .1) (at-if2 .if2 .left) _ _ (sym (at-read-address .read-address .ensures) ∙ at-agent .agent .given .1) _ _ (sym (at-read-word2 .read-word2 .ensures) ∙ at-sequence-number .sequence-number .given .1) _ (sym (c .before .before .read-word3 .ensures) ∙ c .enum-told3 .given .1)))
 
--- src/datagram.rt:53:48
 read-word-requires-4 : tie.Need-read-word-requires-4
 read-word-requires-4 c κs = search needs
 
--- src/datagram.rt:53:32
 enum-known-count : tie.Need-enum-known-count
 enum-known-count c = search needs
 
--- src/datagram.rt:54:42
 enum-told-4 : tie.Need-enum-told-4
 enum-told-4 c = search needs
 
--- src/datagram.rt:54:17
 returns-6 : tie.Need-returns-6
 returns-6 c =
     let at-uptime = c .before .before .before .before in
@@ -116,7 +95,6 @@ returns-6 c =
     let at-if1 = at-read-word .before in
     sym (ap asHead (head-cut-3 _ (at-if1 .if1 .left) _ _ (sym (at-read-word .read-word .ensures) ∙ at-version .version .given .1) (at-if2 .if2 .left) _ _ (sym (at-read-address .read-address .ensures) ∙ at-agent .agent .given .1) _ _ (sym (at-read-word2 .read-word2 .ensures) ∙ at-sequence-number .sequence-number .given .1) _ _ (sym (at-read-word3 .read-word3 .ensures) ∙ at-uptime .uptime .given .1) _ (sym (c .before .before .read-word4 .ensures) ∙ c .enum-told4 .given .1)))
 
--- src/datagram.rt:32:1
 returns-7 : tie.Need-returns-7
 returns-7 c =
     let at-read-address = c .before .before .before in
@@ -126,7 +104,6 @@ returns-7 c =
     let at-if1 = at-read-word .before in
     sym (ap asHead (head-agent-refused _ (at-if1 .if1 .left) _ _ (sym (at-read-word .read-word .ensures) ∙ at-version .version .given .1) (at-if2 .if2 .left) _ _ (sym (at-read-address .read-address .ensures) ∙ c .before .why .given .1)))
 
--- src/datagram.rt:32:1
 returns-8 : tie.Need-returns-8
 returns-8 c =
     let at-read-word4 = c .before .before .before in

@@ -6,51 +6,39 @@ use mathlib.Core.Path.{sym, ap, _∙_}
 use Rattle.reader.proofs.sample.read_counters.Statement.{statement}
 use Rattle.reader.proofs.sample.read_counters.Tie as tie
 
--- src/sample.rt:136:47
 read-word-requires : tie.Need-read-word-requires
 read-word-requires c κs = search needs
 
--- src/sample.rt:136:24
 enum-known-sequence-number : tie.Need-enum-known-sequence-number
 enum-known-sequence-number c = search needs
 
--- src/sample.rt:137:38
 enum-told : tie.Need-enum-told
 enum-told c = search needs
 
--- src/sample.rt:137:9
 returns : tie.Need-returns
 returns c = sym (ap asCounters (counters-cut _ _ _ (reads-found (word-cut (sym (c .before .before .read-word .ensures) ∙ c .enum-told .given .1)))))
 
--- src/sample.rt:139:41
 read-word-requires-2 : tie.Need-read-word-requires-2
 read-word-requires-2 c κs = search needs
 
--- src/sample.rt:139:24
 enum-known-source-id : tie.Need-enum-known-source-id
 enum-known-source-id c = search needs
 
--- src/sample.rt:140:38
 enum-told-2 : tie.Need-enum-told-2
 enum-told-2 c = search needs
 
--- src/sample.rt:140:9
 returns-2 : tie.Need-returns-2
 returns-2 c = sym (ap asCounters (counters-cut _ _ _ (reads-found (word-then (sym (c .before .before .before .before .before .before .read-word .ensures) ∙ c .before .before .before .before .sequence-number .given .1) (word-cut (sym (c .before .before .read-word2 .ensures) ∙ c .enum-told2 .given .1))))))
 
--- src/sample.rt:142:49
 read-word-requires-3 : tie.Need-read-word-requires-3
 read-word-requires-3 c κs = search needs
 
--- src/sample.rt:142:24
 enum-known-sampling-interval : tie.Need-enum-known-sampling-interval
 enum-known-sampling-interval c = search needs
 
--- src/sample.rt:143:38
 enum-told-3 : tie.Need-enum-told-3
 enum-told-3 c = search needs
 
--- src/sample.rt:143:9
 returns-3 : tie.Need-returns-3
 returns-3 c =
     let at-source-id = c .before .before .before .before in
@@ -59,19 +47,15 @@ returns-3 c =
     let at-read-word = at-sequence-number .before .before in
     sym (ap asCounters (counters-cut _ _ _ (reads-found (word-then (sym (at-read-word .read-word .ensures) ∙ at-sequence-number .sequence-number .given .1) (word-then (sym (at-read-word2 .read-word2 .ensures) ∙ at-source-id .source-id .given .1) (word-cut (sym (c .before .before .read-word3 .ensures) ∙ c .enum-told3 .given .1)))))))
 
--- src/sample.rt:145:11
 read-counter-body-requires : tie.Need-read-counter-body-requires
 read-counter-body-requires c κs = search needs
 
--- src/sample.rt:146:34
 enum-known-why : tie.Need-enum-known-why
 enum-known-why c = search needs
 
--- src/sample.rt:147:32
 enum-known-counters : tie.Need-enum-known-counters
 enum-known-counters c = search needs
 
--- src/sample.rt:133:1
 returns-4 : tie.Need-returns-4
 returns-4 c =
     let at-read-counter-body = c .before .before .before in
@@ -83,7 +67,6 @@ returns-4 c =
     let at-read-word = at-sequence-number .before .before in
     sym (ap asCounters (counters-refused _ _ _ _ _ _ _ _ (sym (at-read-word .read-word .ensures) ∙ at-sequence-number .sequence-number .given .1) (sym (at-read-word2 .read-word2 .ensures) ∙ at-source-id .source-id .given .1) (sym (at-read-word3 .read-word3 .ensures) ∙ at-sampling-interval .sampling-interval .given .1) _ _ (sym (at-read-counter-body .read-counter-body .ensures) ∙ c .before .why .given .1)))
 
--- src/sample.rt:133:1
 returns-5 : tie.Need-returns-5
 returns-5 c =
     let at-read-counter-body = c .before .before .before in

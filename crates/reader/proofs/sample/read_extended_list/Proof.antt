@@ -6,35 +6,27 @@ use mathlib.Core.Path.{sym, ap, _∙_}
 use Rattle.reader.proofs.sample.read_extended_list.Statement.{statement}
 use Rattle.reader.proofs.sample.read_extended_list.Tie as tie
 
--- src/sample.rt:107:40
 read-word-requires : tie.Need-read-word-requires
 read-word-requires c κs = search needs
 
--- src/sample.rt:107:24
 enum-known-count : tie.Need-enum-known-count
 enum-known-count c = search needs
 
--- src/sample.rt:108:34
 enum-told : tie.Need-enum-told
 enum-told c = search needs
 
--- src/sample.rt:108:9
 returns : tie.Need-returns
 returns c = sym (ap asFlow (list-cut _ _ _ _ _ (sym (c .before .before .read-word .ensures) ∙ c .enum-told .given .1)))
 
--- src/sample.rt:110:11
 pass-extended-requires : tie.Need-pass-extended-requires
 pass-extended-requires c κs = search needs
 
--- src/sample.rt:111:25
 enum-known-why : tie.Need-enum-known-why
 enum-known-why c = search needs
 
--- src/sample.rt:112:22
 enum-known-next : tie.Need-enum-known-next
 enum-known-next c = search needs
 
--- src/sample.rt:104:1
 returns-2 : tie.Need-returns-2
 returns-2 c =
     let at-pass-extended = c .before .before .before in
@@ -42,7 +34,6 @@ returns-2 c =
     let at-read-word = at-count .before .before in
     sym (ap asFlow (list-refused _ _ _ _ _ _ _ _ (sym (at-read-word .read-word .ensures) ∙ at-count .count .given .1) (sym (at-pass-extended .pass-extended .ensures) ∙ c .before .why .given .1)))
 
--- src/sample.rt:104:1
 returns-3 : tie.Need-returns-3
 returns-3 c =
     let at-pass-extended = c .before .before .before in

@@ -5,39 +5,30 @@ use mathlib.Core.Path.{sym, ap, _∙_}
 use Rattle.reader.proofs.sample.read_flow.Statement.{statement}
 use Rattle.reader.proofs.sample.read_flow.Tie as tie
 
--- src/sample.rt:123:11
 read-flow-words-requires : tie.Need-read-flow-words-requires
 read-flow-words-requires c κs = search needs
 
--- src/sample.rt:124:32
 enum-known-why : tie.Need-enum-known-why
 enum-known-why c = search needs
 
--- src/sample.rt:125:30
 enum-known-words : tie.Need-enum-known-words
 enum-known-words c = search needs
 
--- src/sample.rt:125:57
 read-packet-requires : tie.Need-read-packet-requires
 read-packet-requires c κs = search needs
 
--- src/sample.rt:126:33
 enum-known-why-2 : tie.Need-enum-known-why-2
 enum-known-why-2 c = search needs
 
--- src/sample.rt:127:31
 enum-known-packet-data : tie.Need-enum-known-packet-data
 enum-known-packet-data c = search needs
 
--- src/sample.rt:127:52
 read-extended-list-requires : tie.Need-read-extended-list-requires
 read-extended-list-requires c κs = search needs
 
--- src/sample.rt:120:1
 returns : tie.Need-returns
 returns c = sym (ap asFlow (flow-words-refused _ _ _ _ (sym (c .before .before .before .read-flow-words .ensures) ∙ c .before .why .given .1)))
 
--- src/sample.rt:120:1
 returns-2 : tie.Need-returns-2
 returns-2 c =
     let at-read-packet = c .before .before .before in
@@ -45,7 +36,6 @@ returns-2 c =
     let at-read-flow-words = at-words .before .before in
     sym (ap asFlow (flow-packet-refused _ _ _ _ _ _ (sym (at-read-flow-words .read-flow-words .ensures) ∙ at-words .words .given .1) (sym (at-read-packet .read-packet .ensures) ∙ c .before .why2 .given .1)))
 
--- src/sample.rt:120:1
 returns-3 : tie.Need-returns-3
 returns-3 c =
     let at-read-packet = c .before .before .before .before in

@@ -4,35 +4,27 @@ use mathlib.Core.Path.{sym, _∙_}
 use Rattle.reader.proofs.sample.read_sample.Statement.{statement}
 use Rattle.reader.proofs.sample.read_sample.Tie as tie
 
--- src/sample.rt:189:39
 read-word-requires : tie.Need-read-word-requires
 read-word-requires c κs = search needs
 
--- src/sample.rt:189:24
 enum-known-kind : tie.Need-enum-known-kind
 enum-known-kind c = search needs
 
--- src/sample.rt:190:36
 enum-told : tie.Need-enum-told
 enum-told c = search needs
 
--- src/sample.rt:190:9
 returns : tie.Need-returns
 returns c = rw (sample-cut _ _ _ (sym (c .before .before .read-word .ensures) ∙ c .enum-told .given .1))
 
--- src/sample.rt:193:22
 read-flow-requires : tie.Need-read-flow-requires
 read-flow-requires c κs = search needs
 
--- src/sample.rt:194:31
 enum-known-why : tie.Need-enum-known-why
 enum-known-why c = search needs
 
--- src/sample.rt:195:29
 enum-known-flow : tie.Need-enum-known-flow
 enum-known-flow c = search needs
 
--- src/sample.rt:195:44
 sample-to-requires : tie.Need-sample-to-requires
 sample-to-requires c κs =
     let at-read-flow = c .before .before .before in
@@ -41,7 +33,6 @@ sample-to-requires c κs =
     let at-read-word = at-kind .before .before in
     sample-flow-behind _ _ _ _ (sym (at-read-word .read-word .ensures) ∙ at-kind .kind .given .1) (at-if1 .if1 .taken) _ _ (sym (at-read-flow .read-flow .ensures) ∙ c .before .flow .given .1)
 
--- src/sample.rt:193:9
 returns-2 : tie.Need-returns-2
 returns-2 c =
     let at-read-flow = c .before .before .before in
@@ -50,7 +41,6 @@ returns-2 c =
     let at-read-word = at-kind .before .before in
     rw (sample-flow-refused _ _ _ _ (sym (at-read-word .read-word .ensures) ∙ at-kind .kind .given .1) (at-if1 .if1 .taken) _ _ (sym (at-read-flow .read-flow .ensures) ∙ c .before .why .given .1))
 
--- src/sample.rt:193:9
 returns-3 : tie.Need-returns-3
 returns-3 c =
     let at-read-flow = c .before .before .before .before in
@@ -59,19 +49,15 @@ returns-3 c =
     let at-read-word = at-kind .before .before in
     rw (sample-flow _ _ _ _ (sym (at-read-word .read-word .ensures) ∙ at-kind .kind .given .1) (at-if1 .if1 .taken) _ _ (sym (at-read-flow .read-flow .ensures) ∙ c .before .before .flow .given .1)) (c .sample-to .ensures)
 
--- src/sample.rt:199:22
 read-counters-requires : tie.Need-read-counters-requires
 read-counters-requires c κs = search needs
 
--- src/sample.rt:200:35
 enum-known-why-2 : tie.Need-enum-known-why-2
 enum-known-why-2 c = search needs
 
--- src/sample.rt:201:33
 enum-known-counters : tie.Need-enum-known-counters
 enum-known-counters c = search needs
 
--- src/sample.rt:201:52
 sample-to-requires-2 : tie.Need-sample-to-requires-2
 sample-to-requires-2 c κs =
     let at-read-counters = c .before .before .before in
@@ -80,7 +66,6 @@ sample-to-requires-2 c κs =
     let at-read-word = at-kind .before .before in
     sample-counters-behind _ _ _ _ (sym (at-read-word .read-word .ensures) ∙ at-kind .kind .given .1) (at-if2 .if2 .taken) _ _ (sym (at-read-counters .read-counters .ensures) ∙ c .before .counters .given .1)
 
--- src/sample.rt:199:9
 returns-4 : tie.Need-returns-4
 returns-4 c =
     let at-read-counters = c .before .before .before in
@@ -89,7 +74,6 @@ returns-4 c =
     let at-read-word = at-kind .before .before in
     rw (sample-counters-refused _ _ _ _ (sym (at-read-word .read-word .ensures) ∙ at-kind .kind .given .1) (at-if2 .if2 .taken) _ _ (sym (at-read-counters .read-counters .ensures) ∙ c .before .why2 .given .1))
 
--- src/sample.rt:199:9
 returns-5 : tie.Need-returns-5
 returns-5 c =
     let at-read-counters = c .before .before .before .before in
@@ -98,7 +82,6 @@ returns-5 c =
     let at-read-word = at-kind .before .before in
     rw (sample-counters _ _ _ _ (sym (at-read-word .read-word .ensures) ∙ at-kind .kind .given .1) (at-if2 .if2 .taken) _ _ (sym (at-read-counters .read-counters .ensures) ∙ c .before .before .counters .given .1)) (c .sample-to2 .ensures)
 
--- src/sample.rt:186:1
 returns-6 : tie.Need-returns-6
 returns-6 c = rw (sample-other _ _ _ _ (sym (c .before .before .before .before .before .read-word .ensures) ∙ c .before .before .before .kind .given .1) (c .before .if1 .left) (c .if2 .left))
 
