@@ -35,10 +35,10 @@ shared-slice-read-write-flow-2 : tie.Need-shared-slice-read-write-flow-2
 shared-slice-read-write-flow-2 c = search needs
 
 write-flow-requires : tie.Need-write-flow-requires
-write-flow-requires c κs = search needs
+write-flow-requires c κs = tt
 
 same-length : tie.Need-same-length
-same-length c = search needs
+same-length c = c .before .buffer .given
 
 returns-2 : tie.Need-returns-2
 unfolding flowForm

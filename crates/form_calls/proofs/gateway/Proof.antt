@@ -36,15 +36,16 @@ shared-slice-read-write-gateway-4 : tie.Need-shared-slice-read-write-gateway-4
 shared-slice-read-write-gateway-4 c = search needs
 
 write-gateway-requires : tie.Need-write-gateway-requires
-write-gateway-requires c κs = search needs
+write-gateway-requires c κs = tt
 
 same-length : tie.Need-same-length
-same-length c = search needs
+same-length c = c .before .buffer .given
 
 returns-2 : tie.Need-returns-2
 unfolding gatewayForm
-returns-2 c = let ws = c .before .before .before .before .before .before .before .before .before .before .before .before .before .before .args .words .now in
-    rw (le-leb 5 (length ws) (c .before .before .before .before .before .before .before .before .before .before .if1 .left), sym (part-is 5 ws))
+returns-2 c = let at-if = c .before .before .before .before .before .before .before .before .before .before in
+    let ws = at-if .before .before .before .before .args .words .now in
+    rw (le-leb 5 (length ws) (at-if .if1 .left), sym (part-is 5 ws))
     (c .before .before .write-gateway .ensures)
 
 pub gateway-spec : {M : Type 1} → statement M

@@ -17,10 +17,10 @@ shared-slice-read-write-header-2 : tie.Need-shared-slice-read-write-header-2
 shared-slice-read-write-header-2 c = search needs
 
 write-header-requires : tie.Need-write-header-requires
-write-header-requires c κs = search needs
+write-header-requires c κs = tt
 
 same-length : tie.Need-same-length
-same-length c = search needs
+same-length c = c .before .buffer .given
 
 returns-2 : tie.Need-returns-2
 unfolding headerForm

@@ -35,10 +35,10 @@ shared-slice-read-t21 : tie.Need-shared-slice-read-t21
 shared-slice-read-t21 c = search needs
 
 write-ipv4-requires : tie.Need-write-ipv4-requires
-write-ipv4-requires c κs = search needs
+write-ipv4-requires c κs = tt
 
 same-length : tie.Need-same-length
-same-length c = search needs
+same-length c = c .before .buffer .given
 
 returns-2 : tie.Need-returns-2
 unfolding ipv4Form

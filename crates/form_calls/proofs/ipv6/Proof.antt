@@ -36,10 +36,10 @@ shared-slice-read-t19 : tie.Need-shared-slice-read-t19
 shared-slice-read-t19 c = search needs
 
 write-ipv6-requires : tie.Need-write-ipv6-requires
-write-ipv6-requires c κs = search needs
+write-ipv6-requires c κs = tt
 
 same-length : tie.Need-same-length
-same-length c = search needs
+same-length c = c .before .buffer .given
 
 returns-2 : tie.Need-returns-2
 returns-2 c = let k = c .before .before .before .before .before .before .before .before in let j = k .before .before .before .before in let a = j .before .before .before .args in

@@ -24,14 +24,15 @@ shared-slice-read-t13 : tie.Need-shared-slice-read-t13
 shared-slice-read-t13 c = search needs
 
 write-router-requires : tie.Need-write-router-requires
-write-router-requires c κs = search needs
+write-router-requires c κs = tt
 
 same-length : tie.Need-same-length
-same-length c = search needs
+same-length c = c .before .buffer .given
 
 returns-2 : tie.Need-returns-2
-returns-2 c = let j = c .before .before .before .before .before .before .before .before in let a = j .before .before .before .args in
-    router-written (a .words .now) (a .buffer .now) (j .if1 .left) (c .before .before .before .before .before .before .quad-in .ensures)
+returns-2 c = let at-quad-in = c .before .before .before .before .before .before in
+    let j = at-quad-in .before .before in let a = j .before .before .before .args in
+    router-written (a .words .now) (a .buffer .now) (j .if1 .left) (at-quad-in .quad-in .ensures)
     (c .before .before .write-router .ensures)
 
 pub router-spec : {M : Type 1} → statement M

@@ -24,15 +24,16 @@ part-write-segment-end : tie.Need-part-write-segment-end
 part-write-segment-end c = search needs
 
 write-segment-requires : tie.Need-write-segment-requires
-write-segment-requires c κs = search needs
+write-segment-requires c κs = tt
 
 same-length : tie.Need-same-length
-same-length c = search needs
+same-length c = c .before .buffer .given
 
 returns-2 : tie.Need-returns-2
 unfolding segmentForm
-returns-2 c = let ws = c .before .before .before .before .before .before .before .before .before .args .words .now in
-    rw (le-leb 1 (length ws) (c .before .before .before .before .before .before .if1 .left), sym (part-is 1 ws)) (c .before .before .write-segment .ensures)
+returns-2 c = let at-if = c .before .before .before .before .before .before in
+    let ws = at-if .before .before .before .args .words .now in
+    rw (le-leb 1 (length ws) (at-if .if1 .left), sym (part-is 1 ws)) (c .before .before .write-segment .ensures)
 
 pub segment-spec : {M : Type 1} → statement M
 segment-spec =

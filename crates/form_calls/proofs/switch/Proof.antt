@@ -23,10 +23,10 @@ shared-slice-read-t13 : tie.Need-shared-slice-read-t13
 shared-slice-read-t13 c = search needs
 
 write-switch-requires : tie.Need-write-switch-requires
-write-switch-requires c κs = search needs
+write-switch-requires c κs = tt
 
 same-length : tie.Need-same-length
-same-length c = search needs
+same-length c = c .before .buffer .given
 
 returns-2 : tie.Need-returns-2
 unfolding switchForm

@@ -14,10 +14,10 @@ shared-slice-read-write-url : tie.Need-shared-slice-read-write-url
 shared-slice-read-write-url c = search needs
 
 write-url-requires : tie.Need-write-url-requires
-write-url-requires c κs = search needs
+write-url-requires c κs = tt
 
 same-length : tie.Need-same-length
-same-length c = search needs
+same-length c = c .before .buffer .given
 
 returns-2 : tie.Need-returns-2
 unfolding urlForm

@@ -2,7 +2,6 @@ use Rattle.form_calls.specs.Forms.{userForm}
 use borrow.Author.Tests.{eq-eqb, ne-eqb}
 use lib.ListN.{length}
 use mathlib.Core.Path.{refl}
-use borrow.Author.Needs.{needs}
 use Rattle.form_calls.proofs.user.Statement.{statement}
 use Rattle.form_calls.proofs.user.Tie as tie
 
@@ -11,10 +10,10 @@ unfolding userForm
 returns c = rw (ne-eqb (length (c .before .before .before .before .before .args .words .now)) 0 (c .if1 .taken)) refl
 
 write-user-requires : tie.Need-write-user-requires
-write-user-requires c κs = search needs
+write-user-requires c κs = tt
 
 same-length : tie.Need-same-length
-same-length c = search needs
+same-length c = c .before .buffer .given
 
 returns-2 : tie.Need-returns-2
 unfolding userForm

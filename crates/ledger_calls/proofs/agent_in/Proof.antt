@@ -34,13 +34,14 @@ word-requires-5 : tie.Need-word-requires-5
 word-requires-5 c κs = search needs
 
 returns : tie.Need-returns
-returns c = rw (
-  c .before .before .before .before .before .before .before .before .word .ensures,
-  c .before .before .before .before .before .before .word2 .ensures,
-  c .before .before .before .before .word3 .ensures,
-  c .before .before .word4 .ensures,
-  c .word5 .ensures,
-) refl
+returns c = let at-word = c .before .before .before .before in
+    rw (
+      at-word .before .before .before .before .word .ensures,
+      at-word .before .before .word2 .ensures,
+      at-word .word3 .ensures,
+      c .before .before .word4 .ensures,
+      c .word5 .ensures,
+    ) refl
 
 pub agent-in-spec : {M : Type 1} → statement M
 agent-in-spec =

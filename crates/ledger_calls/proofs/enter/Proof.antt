@@ -22,10 +22,11 @@ same-length : tie.Need-same-length
 same-length c = search needs
 
 returns-2 : tie.Need-returns-2
-returns-2 c = let a = c .before .before .before .before .before .before .args in
-    table-full (c .before .before .before .flow-entry .result) (a .table .now) (c .before .before .before .before .if1 .left)
+returns-2 c = let at-flow-entry = c .before .before .before in
+    let a = at-flow-entry .before .before .before .args in
+    table-full (at-flow-entry .flow-entry .result) (a .table .now) (at-flow-entry .before .if1 .left)
     (c .before .row-for .result) (c .before .row-for .ensures) (c .if2 .taken)
-    ∙ ap (λ (x : FlowEntry). enteredTable x (a .table .now)) (c .before .before .before .flow-entry .ensures)
+    ∙ ap (λ (x : FlowEntry). enteredTable x (a .table .now)) (at-flow-entry .flow-entry .ensures)
 
 enter-row-requires : tie.Need-enter-row-requires
 enter-row-requires c κs = search needs
@@ -34,13 +35,14 @@ same-length-2 : tie.Need-same-length-2
 same-length-2 c = search needs
 
 returns-3 : tie.Need-returns-3
-returns-3 c = let a = c .before .before .before .before .before .before .before .before .before .before .args in
-    table-entered (c .before .before .before .before .before .before .before .flow-entry .result) (a .table .now)
-    (c .before .before .before .before .before .before .before .before .if1 .left)
-    (c .before .before .before .before .before .row-for .result) (c .before .before .before .before .before .row-for .ensures)
-    (c .before .before .before .before .if2 .left)
+returns-3 c = let at-if = c .before .before .before .before in let at-flow-entry = at-if .before .before .before in
+    let a = at-flow-entry .before .before .before .args in
+    table-entered (at-flow-entry .flow-entry .result) (a .table .now)
+    (at-flow-entry .before .if1 .left)
+    (at-if .before .row-for .result) (at-if .before .row-for .ensures)
+    (at-if .if2 .left)
     (c .before .before .enter-row .ensures)
-    ∙ ap (λ (x : FlowEntry). enteredTable x (a .table .now)) (c .before .before .before .before .before .before .before .flow-entry .ensures)
+    ∙ ap (λ (x : FlowEntry). enteredTable x (a .table .now)) (at-flow-entry .flow-entry .ensures)
 
 pub enter-spec : {M : Type 1} → statement M
 enter-spec =

@@ -37,8 +37,9 @@ same-length : tie.Need-same-length
 same-length c = search needs
 
 returns : tie.Need-returns
-returns c = let a = c .before .before .before .before .before .before .before .args in
-    row-refused (a .table .now) (a .i) (c .before .before .before .row-in .result) (a .x) (c .before .before .before .row-in .ensures)
+returns c = let at-row-in = c .before .before .before in
+    let a = at-row-in .before .before .before .before .args in
+    row-refused (a .table .now) (a .i) (at-row-in .row-in .result) (a .x) (at-row-in .row-in .ensures)
     (c .before .before .update .result) (c .before .before .update .ensures)
     (c .before .match .keys2) (c .answer-number .ensures)
 
@@ -64,13 +65,14 @@ same-length-2 : tie.Need-same-length-2
 same-length-2 c = search needs
 
 returns-2 : tie.Need-returns-2
-returns-2 c = let a = c .before .before .before .before .before .before .before .before .before .before .before .before .args in
+returns-2 c = let at-enum-told = c .before .before .before .before .before in let at-row-in = at-enum-told .before .before .before in
+    let a = at-row-in .before .before .before .before .args in
     let room : 11 * a .i + 11 ≤ length (a .table .now) = omega arith in
-    row-entered (a .table .now) (a .i) (c .before .before .before .before .before .before .before .before .row-in .result) (a .x)
-    (c .before .before .before .before .before .before .before .before .row-in .ensures)
-    (c .before .before .before .before .before .before .before .update .result) (c .before .before .before .before .before .before .before .update .ensures)
-    (c .before .before .before .before .before .enum-told .given .1)
-    (row-stored (a .table .now) (c .before .before .put-row .last .0) (11 * a .i) (c .before .before .before .before .before .before .before .update .result .row) room
+    row-entered (a .table .now) (a .i) (at-row-in .row-in .result) (a .x)
+    (at-row-in .row-in .ensures)
+    (at-enum-told .before .before .update .result) (at-enum-told .before .before .update .ensures)
+    (at-enum-told .enum-told .given .1)
+    (row-stored (a .table .now) (c .before .before .put-row .last .0) (11 * a .i) (at-enum-told .before .before .update .result .row) room
     (c .before .before .put-row .ensures))
 
 pub enter-row-spec : {M : Type 1} → statement M

@@ -28,7 +28,8 @@ shared-slice-read-if1 : tie.Need-shared-slice-read-if1 Inv-loop μ-loop
 shared-slice-read-if1 c = search needs
 
 returns : tie.Need-returns Inv-loop μ-loop
-returns c = let k = c .before .before .before .loop in let ns = c .before .before .before .before .args .table .now in
+returns c = let turn = c .before .before .before in
+    let k = turn .loop in let ns = turn .before .args .table .now in
     found isFree ns (k .i) (k .inv .1) (c .before .before .loop-test .taken) (free-at ns (k .i) (c .before .before .loop-test .taken) (c .if1 .taken))
 
 add-i : tie.Need-add-i Inv-loop μ-loop
@@ -38,7 +39,8 @@ loop-less : tie.Need-loop-less Inv-loop μ-loop
 loop-less c = search needs
 
 loop-again : tie.Need-loop-again Inv-loop μ-loop
-loop-again c = let k = c .before .before .before .loop in let ns = c .before .before .before .before .args .table .now in
+loop-again c = let turn = c .before .before .before in
+    let k = turn .loop in let ns = turn .before .args .table .now in
     (search needs, passed isFree ns (k .i) (k .inv .1) (c .before .before .loop-test .taken) (not-free-at ns (k .i) (c .before .before .loop-test .taken) (c .if1 .left)))
 
 returns-2 : tie.Need-returns-2 Inv-loop μ-loop

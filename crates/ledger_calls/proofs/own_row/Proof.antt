@@ -40,11 +40,12 @@ is-of-requires : tie.Need-is-of-requires Inv-loop μ-loop
 is-of-requires c κs = search needs
 
 returns : tie.Need-returns Inv-loop μ-loop
-returns c = let k = c .before .before .before .before .before .loop in let ns = c .before .before .before .before .before .before .before .args .table .now in
-    let x = c .before .before .before .before .before .before .before .args .x in
+returns c = let at-loop-test = c .before .before .before .before in let begin = at-loop-test .before .before .before in
+    let k = at-loop-test .before .loop in let ns = begin .args .table .now in
+    let x = begin .args .x in
     let row : getD (rowsIn 64 ns) (k .i) freeRow ≡ c .before .before .row-in .result =
-    row-read ns (k .i) (c .before .before .row-in .result) (c .before .before .before .before .loop-test .taken) (c .before .before .row-in .ensures) in
-    found (isOf (sourceOf x)) ns (k .i) (k .inv .1) (c .before .before .before .before .loop-test .taken)
+    row-read ns (k .i) (c .before .before .row-in .result) (at-loop-test .loop-test .taken) (c .before .before .row-in .ensures) in
+    found (isOf (sourceOf x)) ns (k .i) (k .inv .1) (at-loop-test .loop-test .taken)
     (ap (isOf (sourceOf x)) row ∙ sym (c .before .is-of .ensures) ∙ c .if1 .taken)
 
 add-i : tie.Need-add-i Inv-loop μ-loop
@@ -54,17 +55,19 @@ loop-less : tie.Need-loop-less Inv-loop μ-loop
 loop-less c = search needs
 
 loop-again : tie.Need-loop-again Inv-loop μ-loop
-loop-again c = let k = c .before .before .before .before .before .loop in let ns = c .before .before .before .before .before .before .before .args .table .now in
-    let x = c .before .before .before .before .before .before .before .args .x in
+loop-again c = let at-loop-test = c .before .before .before .before in let begin = at-loop-test .before .before .before in
+    let k = at-loop-test .before .loop in let ns = begin .args .table .now in
+    let x = begin .args .x in
     let row : getD (rowsIn 64 ns) (k .i) freeRow ≡ c .before .before .row-in .result =
-    row-read ns (k .i) (c .before .before .row-in .result) (c .before .before .before .before .loop-test .taken) (c .before .before .row-in .ensures) in (
+    row-read ns (k .i) (c .before .before .row-in .result) (at-loop-test .loop-test .taken) (c .before .before .row-in .ensures) in (
       search needs,
-      passed (isOf (sourceOf x)) ns (k .i) (k .inv .1) (c .before .before .before .before .loop-test .taken)
+      passed (isOf (sourceOf x)) ns (k .i) (k .inv .1) (at-loop-test .loop-test .taken)
           (ap (isOf (sourceOf x)) row ∙ sym (c .before .is-of .ensures) ∙ c .if1 .left),
     )
 
 returns-2 : tie.Need-returns-2 Inv-loop μ-loop
-returns-2 c = not-found (isOf (sourceOf (c .before .before .before .args .x))) (c .before .before .before .args .table .now)
+returns-2 c = let begin = c .before .before .before in
+    not-found (isOf (sourceOf (begin .args .x))) (begin .args .table .now)
     (c .before .loop .i) (c .before .loop .inv .1) (c .loop-test .left)
 
 pub own-row-spec : {M : Type 1} → statement M

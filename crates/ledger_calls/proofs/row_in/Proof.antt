@@ -37,13 +37,14 @@ shared-slice-read-t18 : tie.Need-shared-slice-read-t18
 shared-slice-read-t18 c = search needs
 
 returns : tie.Need-returns
-returns c = rw (
-  c .before .before .before .before .before .before .before .before .before .is-used .ensures,
-  c .before .before .before .before .before .before .before .before .agent-in .ensures,
-  c .before .before .before .before .before .before .word .ensures,
-  c .before .before .before .before .word2 .ensures,
-  c .before .before .word3 .ensures,
-) refl
+returns c = let at-word = c .before .before .before .before in let at-agent-in = at-word .before .before .before .before in
+    rw (
+      at-agent-in .before .is-used .ensures,
+      at-agent-in .agent-in .ensures,
+      at-word .before .before .word .ensures,
+      at-word .word2 .ensures,
+      c .before .before .word3 .ensures,
+    ) refl
 
 pub row-in-spec : {M : Type 1} → statement M
 row-in-spec =

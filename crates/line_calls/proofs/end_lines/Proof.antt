@@ -31,7 +31,8 @@ same-length-3 : tie.Need-same-length-3
 same-length-3 c = search needs
 
 returns-2 : tie.Need-returns-2
-returns-2 c = rw (sym (c .before .before .before .before .before .before .before .before .before .before .end-lines .ensures), c .before .before .before .before .before .before .n .given .1, c .before .before .fill .ensures)
+returns-2 c = let at-n = c .before .before .before .before .before .before in
+    rw (sym (at-n .before .before .before .before .end-lines .ensures), at-n .n .given .1, c .before .before .fill .ensures)
 
 pub end-lines-spec : {M : Type 1} → statement M
 end-lines-spec =

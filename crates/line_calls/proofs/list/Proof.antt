@@ -22,11 +22,12 @@ same-length-2 : tie.Need-same-length-2
 same-length-2 c = search needs
 
 returns-2 : tie.Need-returns-2
-returns-2 c = let a = c .before .before .before .before .before .before .before .before .before .before .before .before .before .before .args in
+returns-2 c = let at-list-records = c .before .before .before .before .before .before in let at-if = at-list-records .before .before .before .before in
+    let a = at-if .before .before .before .before .args in
     lines-listed (a .capture .now) (a .output .now) (a .state .now)
-    (c .before .before .before .before .before .before .before .before .before .before .if1 .left)
-    (c .before .before .before .before .before .before .before .before .state-in .ensures)
-    (c .before .before .before .before .before .before .list-records .ensures) (c .before .before .put-place .ensures)
+    (at-if .if1 .left)
+    (at-list-records .before .before .state-in .ensures)
+    (at-list-records .list-records .ensures) (c .before .before .put-place .ensures)
 
 pub list-spec : {M : Type 1} → statement M
 list-spec =

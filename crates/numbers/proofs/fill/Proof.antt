@@ -11,7 +11,8 @@ same-length : tie.Need-same-length
 same-length c = search needs
 
 returns : tie.Need-returns
-returns c = (c .before .before .copy .ensures) ∙ sym (filled-whole (c .before .before .before .before .before .before .before .args .xs .now) (c .before .before .before .before .before .before .before .args .out .now) (search needs))
+returns c = let begin = c .before .before .before .before .before .before .before in
+    (c .before .before .copy .ensures) ∙ sym (filled-whole (begin .args .xs .now) (begin .args .out .now) (search needs))
 
 copy-requires-2 : tie.Need-copy-requires-2
 copy-requires-2 c κs = search needs
@@ -20,7 +21,8 @@ same-length-2 : tie.Need-same-length-2
 same-length-2 c = search needs
 
 returns-2 : tie.Need-returns-2
-returns-2 c = (c .before .before .copy2 .ensures) ∙ sym (filled-part (c .before .before .before .before .before .before .before .args .xs .now) (c .before .before .before .before .before .before .before .args .out .now) (search needs))
+returns-2 c = let begin = c .before .before .before .before .before .before .before in
+    (c .before .before .copy2 .ensures) ∙ sym (filled-part (begin .args .xs .now) (begin .args .out .now) (search needs))
 
 pub fill-spec : {M : Type 1} → statement M
 fill-spec =

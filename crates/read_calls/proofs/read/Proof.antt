@@ -1,7 +1,6 @@
-use mathlib.Core.Path.{refl}
+use mathlib.Core.Path.{refl, ap, sym, _∙_}
 use mir.Facts.{fits-widen}
 use Rattle.numbers.specs.Reports.{told}
-use mathlib.Core.Path.{ap, sym, _∙_}
 use Rattle.read_calls.proofs.read.Statement.{statement}
 use Rattle.read_calls.proofs.read.Tie as tie
 
@@ -51,15 +50,17 @@ same-length : tie.Need-same-length
 same-length c = c .before .out .given
 
 returns : tie.Need-returns
-returns c = rw (sym (c .before .before .before .before .before .before .before .read .ensures)
-    ∙ c .before .before .before .before .before .why .given .1) (c .before .before .refuse .ensures)
+returns c = let at-why = c .before .before .before .before .before in
+    rw (sym (at-why .before .before .read .ensures)
+    ∙ at-why .why .given .1) (c .before .before .refuse .ensures)
 
 same-length-2 : tie.Need-same-length-2
 same-length-2 c = c .before .out2 .given
 
 returns-2 : tie.Need-returns-2
-returns-2 c = rw (sym (c .before .before .before .before .before .before .before .before .before .before .before .before .before .before .before .before .read .ensures)
-    ∙ c .before .before .before .before .before .before .before .before .before .before .before .before .before .before .h .given .1)
+returns-2 c = let at-h = c .before .before .before .before .before .before .before .before .before .before .before .before .before .before in
+    rw (sym (at-h .before .before .read .ensures)
+    ∙ at-h .h .given .1)
     (ap (told 0) (c .before .before .fill .ensures))
 
 pub read-spec : {M : Type 1} → statement M

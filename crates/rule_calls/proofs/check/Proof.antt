@@ -33,13 +33,15 @@ same-length : tie.Need-same-length
 same-length c = search needs
 
 returns : tie.Need-returns
-returns c = rw (sym (c .before .before .before .before .before .before .before .check .ensures) ∙ c .before .before .before .before .before .enum-told .given .1) (ap (told 0) (c .before .before .fill .ensures))
+returns c = let at-enum-told = c .before .before .before .before .before in
+    rw (sym (at-enum-told .before .before .check .ensures) ∙ at-enum-told .enum-told .given .1) (ap (told 0) (c .before .before .fill .ensures))
 
 same-length-2 : tie.Need-same-length-2
 same-length-2 c = search needs
 
 returns-2 : tie.Need-returns-2
-returns-2 c = rw (sym (c .before .before .before .before .before .before .before .before .before .check .ensures) ∙ c .before .before .before .before .before .before .before .why .given .1) (telling (c .refusal-number .ensures) (c .before .before .before .fill2 .ensures))
+returns-2 c = let at-fill = c .before .before .before in let at-why = at-fill .before .before .before .before in
+    rw (sym (at-why .before .before .check .ensures) ∙ at-why .why .given .1) (telling (c .refusal-number .ensures) (at-fill .fill2 .ensures))
 
 pub check-spec : {M : Type 1} → statement M
 check-spec =

@@ -1,7 +1,6 @@
-use mathlib.Core.Path.{_∙_}
+use mathlib.Core.Path.{_∙_, ap, sym}
 use Rattle.numbers.proofs.Reports.{behind-behind}
 use Prim.Native.Nat.{ℕ, _+_}
-use mathlib.Core.Path.{ap, sym}
 use borrow.Author.Needs.{needs}
 use Rattle.rule_calls.proofs.fill_key.Statement.{statement}
 use Rattle.rule_calls.proofs.fill_key.Tie as tie
@@ -28,12 +27,13 @@ same-length : tie.Need-same-length
 same-length c = c .before .out2 .given ∙ c .before .before .before .before .before .before .out .given
 
 returns : tie.Need-returns
-returns c = rw (
-  sym (c .before .before .before .before .before .before .before .before .before .before .before .widened .ensures .0),
-  sym (c .before .before .before .before .before .before .before .before .before .before .widened2 .ensures .0),
-)
-    (behind-behind _ _ _ _ _ 2 25 (sym (ap (λ (n : ℕ). 2 + n) (c .before .before .before .before .before .before .before .before .before .before .before .widened .ensures .1)))
-    (c .before .before .before .before .before .before .before .fill-behind .ensures) (c .before .before .fill-behind2 .ensures))
+returns c = let at-fill-behind = c .before .before .before .before .before .before .before in let at-widened = at-fill-behind .before .before .before in
+    rw (
+      sym (at-widened .before .widened .ensures .0),
+      sym (at-widened .widened2 .ensures .0),
+    )
+    (behind-behind _ _ _ _ _ 2 25 (sym (ap (λ (n : ℕ). 2 + n) (at-widened .before .widened .ensures .1)))
+    (at-fill-behind .fill-behind .ensures) (c .before .before .fill-behind2 .ensures))
 
 pub fill-key-spec : {M : Type 1} → statement M
 fill-key-spec =

@@ -1,6 +1,5 @@
-use mathlib.Core.Path.{_∙_}
+use mathlib.Core.Path.{_∙_, sym, refl}
 use Rattle.numbers.proofs.Reports.{telling, then-behind}
-use mathlib.Core.Path.{sym, refl}
 use Rattle.rule_calls.proofs.run.Statement.{statement}
 use Rattle.rule_calls.proofs.run.Tie as tie
 
@@ -26,13 +25,14 @@ same-length : tie.Need-same-length
 same-length c = c .before .before .out2 .given ∙ c .before .before .before .before .before .before .out .given
 
 returns : tie.Need-returns
-returns c = rw (
-  sym (c .before .before .before .before .before .before .before .before .before .before .before .before .run .ensures),
-  sym (c .before .before .before .before .before .before .before .before .before .before .rule-named .ensures),
-)
+returns c = let at-fill-key = c .before .before .before in let at-fill = at-fill-key .before .before .before .before in let at-rule-named = at-fill .before .before .before in
+    rw (
+      sym (at-rule-named .before .before .run .ensures),
+      sym (at-rule-named .rule-named .ensures),
+    )
     (telling (c .answer-number .ensures)
     (then-behind _ _ _ _ _ 2 refl
-    (c .before .before .before .before .before .before .before .fill .ensures) (c .before .before .before .fill-key .ensures)))
+    (at-fill .fill .ensures) (at-fill-key .fill-key .ensures)))
 
 pub run-spec : {M : Type 1} → statement M
 run-spec =

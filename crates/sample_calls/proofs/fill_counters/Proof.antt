@@ -1,7 +1,6 @@
-use mathlib.Core.Path.{_∙_}
+use mathlib.Core.Path.{_∙_, refl}
 use mir.Facts.{fits-widen}
-use Rattle.numbers.proofs.Reports.{then-behind}
-use mathlib.Core.Path.{sym, refl}
+use Rattle.sample_calls.proofs.CounterPlaces.{counters-put}
 use borrow.Author.Needs.{needs}
 use Rattle.sample_calls.proofs.fill_counters.Statement.{statement}
 use Rattle.sample_calls.proofs.fill_counters.Tie as tie
@@ -40,11 +39,11 @@ same-length : tie.Need-same-length
 same-length c = c .before .out2 .given ∙ c .before .before .before .before .before .out .given
 
 returns : tie.Need-returns
-returns c = rw (
-  sym (c .before .before .before .before .before .before .before .before .before .before .before .before .before .before .read-counter-values .ensures),
-  sym (c .before .before .before .before .before .before .before .before .before .before .before .before .before .counter-count .ensures),
-)
-    (then-behind _ _ _ _ _ 8 refl (c .before .before .before .before .before .before .fill .ensures) (c .before .before .fill-values .ensures))
+returns c = let at-count = c .before .before .before .before .before .before .before .before .before .before .before .before .before in
+    let a = at-count .before .before .before .before .before .args in
+    counters-put (a .out .now) (a .octets .now) (a .x) (a .offset) (a .length) (at-count .counter-count .result) (at-count .before .read-counter-values .result)
+    (at-count .before .read-counter-values .ensures) (at-count .counter-count .ensures)
+    (c .before .before .before .before .before .before .fill .ensures) (c .before .before .fill-values .ensures)
 
 pub fill-counters-spec : {M : Type 1} → statement M
 fill-counters-spec =

@@ -1,7 +1,6 @@
-use mathlib.Core.Path.{_∙_}
+use mathlib.Core.Path.{_∙_, sym, refl}
 use mir.Facts.{fits-widen}
 use Rattle.numbers.proofs.Reports.{then-behind}
-use mathlib.Core.Path.{sym, refl}
 use Rattle.sample_calls.proofs.fill_flow.Statement.{statement}
 use Rattle.sample_calls.proofs.fill_flow.Tie as tie
 
@@ -30,19 +29,21 @@ fill-packet-requires : tie.Need-fill-packet-requires
 fill-packet-requires c κs = tt
 
 same-length : tie.Need-same-length
-same-length c = c .before .out4 .given
-    ∙ c .before .before .before .before .before .out3 .given
-    ∙ c .before .before .before .before .before .before .before .before .before .before .before .out2 .given
-    ∙ c .before .before .before .before .before .before .before .before .before .before .before .before .before .before .before .out .given
+same-length c = let at-out = c .before .before .before .before .before in let at-out' = at-out .before .before .before .before .before .before in
+    c .before .out4 .given
+    ∙ at-out .out3 .given
+    ∙ at-out' .out2 .given
+    ∙ at-out' .before .before .before .before .out .given
 
 returns : tie.Need-returns
-returns c = rw (sym (c .before .before .before .before .before .before .before .before .before .before .before .before .before .before .before .before .before .before .before .packet-type .ensures))
+returns c = let at-fill-behind = c .before .before .before .before .before .before in let at-fill-words = at-fill-behind .before .before .before .before .before .before in let at-fill = at-fill-words .before .before .before .before in
+    rw (sym (at-fill .before .before .before .packet-type .ensures))
     (then-behind _ _ _ _ _ 13 refl
     (then-behind _ _ _ _ _ 10 refl
     (then-behind _ _ _ _ _ 3 refl
-    (c .before .before .before .before .before .before .before .before .before .before .before .before .before .before .before .before .fill .ensures)
-    (c .before .before .before .before .before .before .before .before .before .before .before .before .fill-words .ensures))
-    (c .before .before .before .before .before .before .fill-behind .ensures))
+    (at-fill .fill .ensures)
+    (at-fill-words .fill-words .ensures))
+    (at-fill-behind .fill-behind .ensures))
     (c .before .before .fill-packet .ensures))
 
 pub fill-flow-spec : {M : Type 1} → statement M

@@ -42,21 +42,23 @@ fill-behind-requires-2 : tie.Need-fill-behind-requires-2
 fill-behind-requires-2 c κs = tt
 
 same-length : tie.Need-same-length
-same-length c = omega (
-  arith,
-  c .before .out4 .given,
-  c .before .before .before .before .before .before .before .before .before .before .out3 .given,
-  c .before .before .before .before .before .before .before .before .before .before .before .before .before .before .out2 .given,
-  c .before .before .before .before .before .before .before .before .before .before .before .before .before .before .before .before .before .before .out .given,
-)
+same-length c = let at-out = c .before .before .before .before .before .before .before .before .before .before in let at-out' = at-out .before .before .before .before in
+    omega (
+      arith,
+      c .before .out4 .given,
+      at-out .out3 .given,
+      at-out' .out2 .given,
+      at-out' .before .before .before .before .out .given,
+    )
 
 returns : tie.Need-returns
-returns c = behind-behind _ _ _ _ _ 13 23 refl
+returns c = let at-fill-quad = c .before .before .before .before .before .before .before .before .before .before .before in let at-fill-quad' = at-fill-quad .before .before .before .before in
+    behind-behind _ _ _ _ _ 13 23 refl
     (behind-behind _ _ _ _ _ 13 19 refl
     (behind-behind _ _ _ _ _ 13 15 refl
-    (c .before .before .before .before .before .before .before .before .before .before .before .before .before .before .before .before .before .before .before .fill-behind .ensures)
-    (c .before .before .before .before .before .before .before .before .before .before .before .before .before .before .before .fill-quad .ensures))
-    (c .before .before .before .before .before .before .before .before .before .before .before .fill-quad2 .ensures))
+    (at-fill-quad' .before .before .before .before .fill-behind .ensures)
+    (at-fill-quad' .fill-quad .ensures))
+    (at-fill-quad .fill-quad2 .ensures))
     (c .before .before .fill-behind2 .ensures)
 
 pub fill-ipv6-spec : {M : Type 1} → statement M

@@ -28,24 +28,26 @@ enum-known-values-2 : tie.Need-enum-known-values-2
 enum-known-values-2 c = c .match2 .keys2
 
 fill-counters-requires : tie.Need-fill-counters-requires
-fill-counters-requires c κs = version-word _
-    (decode sample-type (c .before .before .before .before .before .before .before .before .before .before .args .octets .now)
-    (c .before .before .before .before .before .before .before .before .before .before .args .at)) _ _ _
-    (sym (c .before .before .before .before .before .before .before .read-sample .ensures) ∙ c .before .before .before .before .before .x .given .1)
+fill-counters-requires c κs = let at-x = c .before .before .before .before .before in let begin = at-x .before .before .before .before .before in
+    version-word _
+    (decode sample-type (begin .args .octets .now)
+    (begin .args .at)) _ _ _
+    (sym (at-x .before .before .read-sample .ensures) ∙ at-x .x .given .1)
     (c .before .before .values2 .given .1)
 
 same-length : tie.Need-same-length
 same-length c = c .before .out .given
 
 returns : tie.Need-returns
-returns c = rw (sym (c .before .before .before .before .before .before .before .read-sample .ensures) ∙ c .before .before .before .before .before .why .given .1) (c .before .before .refuse .ensures)
+returns c = let at-why = c .before .before .before .before .before in
+    rw (sym (at-why .before .before .read-sample .ensures) ∙ at-why .why .given .1) (c .before .before .refuse .ensures)
 
 same-length-2 : tie.Need-same-length-2
 same-length-2 c = c .before .out2 .given
 
 returns-2 : tie.Need-returns-2
 returns-2 c = rw (
-  sym (c .before .before .before .before .before .before .before .before .before .before .read-sample .ensures) ∙ c .before .before .before .before .before .before .before .before .x .given .1,
+  (let at-x = c .before .before .before .before .before .before .before .before in sym (at-x .before .before .read-sample .ensures) ∙ at-x .x .given .1),
   c .before .before .before .before .before .values .given .1,
 )
     (ap (told 0) (c .before .before .fill-flow .ensures))
@@ -55,7 +57,7 @@ same-length-3 c = c .before .out3 .given
 
 returns-3 : tie.Need-returns-3
 returns-3 c = rw (
-  sym (c .before .before .before .before .before .before .before .before .before .before .read-sample .ensures) ∙ c .before .before .before .before .before .before .before .before .x .given .1,
+  (let at-x = c .before .before .before .before .before .before .before .before in sym (at-x .before .before .read-sample .ensures) ∙ at-x .x .given .1),
   c .before .before .before .before .before .values2 .given .1,
 )
     (ap (told 0) (c .before .before .fill-counters .ensures))

@@ -12,7 +12,8 @@ answer-number-requires : tie.Need-answer-number-requires
 answer-number-requires c κs = search needs
 
 returns : tie.Need-returns
-returns c = refusal-told (c .before .before .before .args .answer) (c .before .before .before .args .out .now) (c .before .match .keys2) (c .answer-number .ensures)
+returns c = let begin = c .before .before .before in
+    refusal-told (begin .args .answer) (begin .args .out .now) (c .before .match .keys2) (c .answer-number .ensures)
 
 slice-aggregate-fill : tie.Need-slice-aggregate-fill
 slice-aggregate-fill c = search needs
