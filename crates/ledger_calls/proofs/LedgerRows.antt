@@ -17,21 +17,14 @@ use Rattle.ledger.specs.declared.RowEntered.{RowEntered}
 use Rattle.ledger.specs.declared.TableEntered.{TableEntered}
 use Rattle.ledger.specs.Ledger.{freeRow, sameSource, step, opened, advanced, answered, updated, rowFor, withRow, entered}
 use Rattle.numbers.specs.Reports.{Told, told}
-use Rattle.ledger_calls.specs.LedgerTable.{rowIn, rowsIn, rowNumbers, numbersAfter, enteredTable, SampleWords}
+use Rattle.ledger_calls.specs.LedgerTable.{rowIn, rowsIn, rowNumbers, numbersAfter, enteredTable, EntryWords, SampleWords}
 use Rattle.ledger_calls.proofs.LedgerTables.{rows-length, row-at, table-long}
 
 -- ---- a row from its numbers
 
 -- every word of a row is below 2 ^ 32
-record RowWords (row : Row) : Type 0 where
-  kind : row .agent .kind < 2 ^ 32
-  a : row .agent .octets .a < 2 ^ 32
-  b : row .agent .octets .b < 2 ^ 32
-  c : row .agent .octets .c < 2 ^ 32
-  d : row .agent .octets .d < 2 ^ 32
-  source : row .«source_id» < 2 ^ 32
-  sequence : row .«sequence_number» < 2 ^ 32
-  pool : row .«sample_pool» < 2 ^ 32
+abbrev RowWords : Row → Type 0
+RowWords row = EntryWords (row .agent) (row .«source_id») (row .«sequence_number») (row .«sample_pool»)
 
 low : (n : ℕ) → n % 2 ^ 32 < 2 ^ 32
 low n = omega arith
@@ -46,11 +39,7 @@ used-back false = refl
 row-in-words : (ns : List ℕ) → RowWords (rowIn ns)
 row-in-words ns =
     record {
-      kind = low (getD ns 1 0);
-      a = low (getD ns 2 0);
-      b = low (getD ns 3 0);
-      c = low (getD ns 4 0);
-      d = low (getD ns 5 0);
+      agent = record { kind = low (getD ns 1 0); a = low (getD ns 2 0); b = low (getD ns 3 0); c = low (getD ns 4 0); d = low (getD ns 5 0) };
       source = low (getD ns 6 0);
       sequence = low (getD ns 7 0);
       pool = low (getD ns 8 0);
@@ -61,11 +50,11 @@ row-back : (row : Row) (rest : List ℕ) → RowWords row → rowIn (rowNumbers 
 row-back row rest w =
     rw (
       used-back (row .used),
-      kept (row .agent .kind) (w .kind),
-      kept (row .agent .octets .a) (w .a),
-      kept (row .agent .octets .b) (w .b),
-      kept (row .agent .octets .c) (w .c),
-      kept (row .agent .octets .d) (w .d),
+      kept (row .agent .kind) (w .agent .kind),
+      kept (row .agent .octets .a) (w .agent .a),
+      kept (row .agent .octets .b) (w .agent .b),
+      kept (row .agent .octets .c) (w .agent .c),
+      kept (row .agent .octets .d) (w .agent .d),
       kept (row .«source_id») (w .source),
       kept (row .«sequence_number») (w .sequence),
       kept (row .«sample_pool») (w .pool),
@@ -118,31 +107,9 @@ rows-set (suc k) (suc i) ns row h l w =
 
 -- ---- a sample entered
 
-opened-words : (x : FlowEntry) → SampleWords x → RowWords (opened x)
-opened-words x w =
-    record {
-      kind = w .kind;
-      a = w .a;
-      b = w .b;
-      c = w .c;
-      d = w .d;
-      source = w .source;
-      sequence = w .sequence;
-      pool = w .pool;
-    }
-
+-- a row brought forward keeps its agent and source id
 advanced-words : (row : Row) (x : FlowEntry) → RowWords row → SampleWords x → RowWords (advanced row x)
-advanced-words row x v w =
-    record {
-      kind = v .kind;
-      a = v .a;
-      b = v .b;
-      c = v .c;
-      d = v .d;
-      source = v .source;
-      sequence = w .sequence;
-      pool = w .pool;
-    }
+advanced-words row x v w = record { agent = v .agent; source = v .source; sequence = w .sequence; pool = w .pool }
 
 module _ (ns : List ℕ) (x : FlowEntry) (w : SampleWords x) (long : 704 ≤ length ns) (i : ℕ) (h : i < 64) where
   -- the rows with row i brought up to date
@@ -163,7 +130,7 @@ module _ (ns : List ℕ) (x : FlowEntry) (w : SampleWords x) (long : 704 ≤ len
           (answered Entered (opened x))
 
       go : (a b c e : Bool) → rowsIn 64 (numbersAfter (after a b c e .answer) i (after a b c e .row) ns) ≡ set (rowsIn 64 ns) i (after a b c e .row)
-      go false b c e = rows-set 64 i ns (opened x) h long (opened-words x w)
+      go false b c e = rows-set 64 i ns (opened x) h long w
       go true false c e = stays
       go true true true e = stays
       go true true false true = stays

@@ -105,13 +105,21 @@ enteredTable x ns = cond (leb 704 (length ns)) (rowsTold (rowsIn 64 ns) x ns) (t
 
 -- ---- words
 
+-- every word of an address is below 2 ^ 32
+pub record AddressWords (x : Address) : Type 0 where
+  pub kind : x .kind < 2 ^ 32
+  pub a : x .octets .a < 2 ^ 32
+  pub b : x .octets .b < 2 ^ 32
+  pub c : x .octets .c < 2 ^ 32
+  pub d : x .octets .d < 2 ^ 32
+
+-- every word of an agent address, a source id, a sequence number and a sample pool is below 2 ^ 32
+pub record EntryWords (x : Address) (id number total : ℕ) : Type 0 where
+  pub agent : AddressWords x
+  pub source : id < 2 ^ 32
+  pub sequence : number < 2 ^ 32
+  pub pool : total < 2 ^ 32
+
 -- every word that the ledger takes of a sample is below 2 ^ 32
-pub record SampleWords (x : FlowEntry) : Type 0 where
-  pub kind : x .agent .kind < 2 ^ 32
-  pub a : x .agent .octets .a < 2 ^ 32
-  pub b : x .agent .octets .b < 2 ^ 32
-  pub c : x .agent .octets .c < 2 ^ 32
-  pub d : x .agent .octets .d < 2 ^ 32
-  pub source : x .words .«source_id» < 2 ^ 32
-  pub sequence : x .words .«sequence_number» < 2 ^ 32
-  pub pool : x .words .«sample_pool» < 2 ^ 32
+abbrev pub SampleWords : FlowEntry → Type 0
+SampleWords x = EntryWords (x .agent) (x .words .«source_id») (x .words .«sequence_number») (x .words .«sample_pool»)

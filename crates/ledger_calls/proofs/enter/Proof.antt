@@ -10,7 +10,7 @@ use Rattle.ledger_calls.proofs.enter.Tie as tie
 returns : tie.Need-returns
 returns c = let a = c .before .before .args in
     table-short (flowEntry (addressWith (a .agent-type) (a .a) (a .b) (a .c) (a .d)) (a .source-id) (a .sequence-number) (a .sample-pool)) (a .table .now)
-    (c .if1 .taken)
+    (search needs)
 
 flow-entry-requires : tie.Need-flow-entry-requires
 flow-entry-requires c κs = search needs

@@ -4,7 +4,7 @@ use Rattle.line_calls.proofs.list.Statement.{statement}
 use Rattle.line_calls.proofs.list.Tie as tie
 
 returns : tie.Need-returns
-returns c = let a = c .before .before .before .before .args in lines-refused (a .capture .now) (a .output .now) (a .state .now) (c .if1 .taken)
+returns c = let a = c .before .before .before .before .args in lines-refused (a .capture .now) (a .output .now) (a .state .now) (search needs)
 
 state-in-requires : tie.Need-state-in-requires
 state-in-requires c κs = search needs
