@@ -1,83 +1,86 @@
-// The proved core for programs in C and Rust: crates read_calls and write_calls under names that C can call, with the same contracts. A slice is passed as a
-// pointer and a length. include/sflow4.h says for each function what it answers.
+// The proved core for programs in C and Rust: the functions of the crates whose names end in _calls, under names that C can call, with the same contracts. A
+// slice is passed as a pointer and a length. include/sflow4.h says for each function what it answers.
 ghost use Rattle.engine.specs.Results.{engineOf};
 ghost use Rattle.extended_data.specs.ExtendedData.{segmentOf, asSegment, extendedOf, asExtended};
+ghost use Rattle.form_calls.specs.Forms.{written};
 ghost use Rattle.form_writer.specs.Parts.{writeValue};
+ghost use Rattle.ledger_calls.specs.LedgerTable.{flowEntry, enteredTable};
+ghost use Rattle.line_calls.specs.ListedLines.{listedLines, countedTo, endedAt};
 ghost use Rattle.listing.specs.Lines.{writeLine};
 ghost use Rattle.listing.specs.Texts.{endLines};
-ghost use Rattle.numbers.specs.Reports.{told, tell};
-ghost use Rattle.read_calls.specs.Reading.{headReport, sampleReport, extendedReport, segmentReport};
-ghost use Rattle.read_calls.specs.RuleSets.{checkReport, engineReport};
+ghost use Rattle.numbers.specs.Addresses.{addressWith};
+ghost use Rattle.numbers.specs.Reports.{told, tell, handed};
+ghost use Rattle.read_calls.specs.Reading.{headReport, extendedReport, segmentReport};
 ghost use Rattle.reader.specs.Datagrams.{datagramOf, asHead};
 ghost use Rattle.reader.specs.Samples.{sampleOf, asSample};
+ghost use Rattle.rule_calls.specs.RuleSets.{checkReport, engineReport};
 ghost use Rattle.rules.specs.Checks.{check};
+ghost use Rattle.sample_calls.specs.SampleReports.{sampleReport};
 ghost use Rattle.sample_writer.specs.CounterValues.{countersAllowed, countersValue};
 ghost use Rattle.sample_writer.specs.FlowValues.{isOne};
 ghost use Rattle.sflow.specs.Datagram.{as-path-type, extended-data-type, sample-type};
 ghost use Rattle.sflow.specs.Decode.{decode, mapped};
 ghost use Rattle.sflow.specs.Grammar.{encode};
 ghost use Rattle.sflow.specs.Reading.{readDatagram};
-ghost use Rattle.write_calls.specs.LedgerTable.{flowEntry, enteredTable};
-ghost use Rattle.write_calls.specs.ListedLines.{listedLines, countedTo, endedAt};
-ghost use Rattle.write_calls.specs.Writing.{handed, handOver, addressOf, written};
+ghost use Rattle.write_calls.specs.Writing.{handOver};
 ghost use Rattle.writer.specs.Datagrams.{started, appended};
 ghost use lib.Dec.{eqb};
 ghost use lib.ListN.{length};
 ghost use mathlib.Core.Bool.{not};
 ghost use mathlib.Core.Path.{_≡_};
 
-// `read_calls::reading::read`.
+// `read_calls::read`.
 #[no_mangle]
 pub extern "C" fn sflow4_read(octets: &[u8], out: &mut [u64]) -> u32
     ensures { λ r. ⌜ told r (now (out .exit)) ≡ tell (headReport (asHead (mapped datagramOf (readDatagram (now (octets .entry)))))) (now (out .entry)) ⌝ }
 {
-    read_calls::reading::read(octets, out)
+    read_calls::read(octets, out)
 }
 
-// `read_calls::reading::sample`.
+// `sample_calls::sample`.
 #[no_mangle]
 pub extern "C" fn sflow4_sample(octets: &[u8], at: usize, out: &mut [u64]) -> u32
     ensures { λ r. ⌜ told r (now (out .exit))
         ≡ tell (sampleReport (now (octets .entry)) (asSample at (mapped (sampleOf at) (decode sample-type (now (octets .entry)) at)))) (now (out .entry)) ⌝ }
 {
-    read_calls::reading::sample(octets, at, out)
+    sample_calls::sample(octets, at, out)
 }
 
-// `read_calls::reading::extended`.
+// `read_calls::extended`.
 #[no_mangle]
 pub extern "C" fn sflow4_extended(octets: &[u8], at: usize, out: &mut [u64]) -> u32
     ensures { λ r. ⌜ told r (now (out .exit))
         ≡ tell (extendedReport (asExtended (mapped (extendedOf at) (decode extended-data-type (now (octets .entry)) at)))) (now (out .entry)) ⌝ }
 {
-    read_calls::reading::extended(octets, at, out)
+    read_calls::extended(octets, at, out)
 }
 
-// `read_calls::reading::segment`.
+// `read_calls::segment`.
 #[no_mangle]
 pub extern "C" fn sflow4_segment(octets: &[u8], at: usize, out: &mut [u64]) -> u32
     ensures { λ r. ⌜ told r (now (out .exit))
         ≡ tell (segmentReport (asSegment (mapped (segmentOf at) (decode as-path-type (now (octets .entry)) at)))) (now (out .entry)) ⌝ }
 {
-    read_calls::reading::segment(octets, at, out)
+    read_calls::segment(octets, at, out)
 }
 
-// `read_calls::rule_sets::check`.
+// `rule_calls::check`.
 #[no_mangle]
 pub extern "C" fn rtfm_check(rules: &[u8], out: &mut [u64]) -> u32
     ensures { λ r. ⌜ told r (now (out .exit)) ≡ tell (checkReport (check (now (rules .entry)))) (now (out .entry)) ⌝ }
 {
-    read_calls::rule_sets::check(rules, out)
+    rule_calls::check(rules, out)
 }
 
-// `read_calls::rule_sets::run`.
+// `rule_calls::run`.
 #[no_mangle]
 pub extern "C" fn rtfm_run(rules: &[u8], sample: &[u8], out: &mut [u64]) -> u32
     ensures { λ r. ⌜ told r (now (out .exit)) ≡ tell (engineReport (engineOf (now (rules .entry)) (now (sample .entry)))) (now (out .entry)) ⌝ }
 {
-    read_calls::rule_sets::run(rules, sample, out)
+    rule_calls::run(rules, sample, out)
 }
 
-// `write_calls::writing::append`.
+// `write_calls::append`.
 #[no_mangle]
 pub extern "C" fn sflow4_append(
     buffer: &mut [u8],
@@ -89,10 +92,10 @@ pub extern "C" fn sflow4_append(
     ensures { λ r. ⌜ handed r (now (buffer .exit)) (now (out .exit))
         ≡ handOver (appended (isOne sample-type (now (sample .entry))) (now (sample .entry)) limit length (now (buffer .entry))) (now (out .entry)) ⌝ }
 {
-    write_calls::writing::append(buffer, limit, length, sample, out)
+    write_calls::append(buffer, limit, length, sample, out)
 }
 
-// `write_calls::writing::start`.
+// `write_calls::start`.
 #[no_mangle]
 pub extern "C" fn sflow4_start(
     buffer: &mut [u8],
@@ -107,9 +110,9 @@ pub extern "C" fn sflow4_start(
     out: &mut [u64],
 ) -> u32
     ensures { λ r. ⌜ handed r (now (buffer .exit)) (now (out .exit))
-        ≡ handOver (started limit (addressOf «agent_type» a b c d) «sequence_number» uptime (now (buffer .entry))) (now (out .entry)) ⌝ }
+        ≡ handOver (started limit (addressWith «agent_type» a b c d) «sequence_number» uptime (now (buffer .entry))) (now (out .entry)) ⌝ }
 {
-    write_calls::writing::start(
+    write_calls::start(
         buffer,
         limit,
         agent_type,
@@ -123,7 +126,7 @@ pub extern "C" fn sflow4_start(
     )
 }
 
-// `write_calls::writing::write_counters`.
+// `write_calls::write_counters`.
 #[no_mangle]
 pub extern "C" fn sflow4_write_counters(
     sequence_number: u32,
@@ -138,7 +141,7 @@ pub extern "C" fn sflow4_write_counters(
         ≡ handOver (writeValue (countersAllowed version (now (numbers .entry)))
         (encode sample-type (countersValue «sequence_number» «source_id» interval version (now (numbers .entry)))) (now (buffer .entry))) (now (out .entry)) ⌝ }
 {
-    write_calls::writing::write_counters(
+    write_calls::write_counters(
         sequence_number,
         source_id,
         interval,
@@ -149,7 +152,7 @@ pub extern "C" fn sflow4_write_counters(
     )
 }
 
-// `write_calls::writing::write`.
+// `form_calls::write`.
 #[no_mangle]
 pub extern "C" fn sflow4_write(
     kind: u32,
@@ -162,10 +165,10 @@ pub extern "C" fn sflow4_write(
     ensures { λ r. ⌜ handed r (now (buffer .exit)) (now (out .exit))
         ≡ handOver (written kind (now (words .entry)) (now (first .entry)) (now (second .entry)) (now (buffer .entry))) (now (out .entry)) ⌝ }
 {
-    write_calls::writing::write(kind, words, first, second, buffer, out)
+    form_calls::write(kind, words, first, second, buffer, out)
 }
 
-// `write_calls::ledger_table::enter`.
+// `ledger_calls::enter`.
 #[no_mangle]
 pub extern "C" fn sflow4_ledger(
     table: &mut [u64],
@@ -179,9 +182,9 @@ pub extern "C" fn sflow4_ledger(
     sample_pool: u32,
 ) -> u32
     ensures { λ r. ⌜ told r (now (table .exit))
-        ≡ enteredTable (flowEntry (addressOf «agent_type» a b c d) «source_id» «sequence_number» «sample_pool») (now (table .entry)) ⌝ }
+        ≡ enteredTable (flowEntry (addressWith «agent_type» a b c d) «source_id» «sequence_number» «sample_pool») (now (table .entry)) ⌝ }
 {
-    write_calls::ledger_table::enter(
+    ledger_calls::enter(
         table,
         agent_type,
         a,
@@ -194,15 +197,15 @@ pub extern "C" fn sflow4_ledger(
     )
 }
 
-// `write_calls::lines::list`.
+// `line_calls::list`.
 #[no_mangle]
 pub extern "C" fn sflow4_lines(capture: &[u8], output: &mut [u8], state: &mut [u64]) -> u32
     ensures { λ r. ⌜ handed r (now (output .exit)) (now (state .exit)) ≡ listedLines (now (capture .entry)) (now (output .entry)) (now (state .entry)) ⌝ }
 {
-    write_calls::lines::list(capture, output, state)
+    line_calls::list(capture, output, state)
 }
 
-// `write_calls::lines::end_lines`.
+// `line_calls::end_lines`.
 #[no_mangle]
 pub extern "C" fn sflow4_end_lines(
     output: &mut [u8],
@@ -216,5 +219,5 @@ pub extern "C" fn sflow4_end_lines(
     ensures { λ r. ⌜ handed r (now (output .exit)) (now (out .exit))
         ≡ endedAt (writeLine 123 (now (output .entry)) 0 (endLines (countedTo offset records refused samples) (not (eqb bad 0)))) (now (out .entry)) ⌝ }
 {
-    write_calls::lines::end_lines(output, offset, records, refused, samples, bad, out)
+    line_calls::end_lines(output, offset, records, refused, samples, bad, out)
 }

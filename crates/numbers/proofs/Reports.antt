@@ -1,18 +1,12 @@
 -- Laws of filling an array.
-use Prim.Native.Nat.{ℕ, zero, suc, _≤_, _<_}
-use native.Mathlib.Nat.{not-suc-le-zero, le-of-suc-le-suc}
-use mathlib.Core.Path.{_≡_, refl, ap}
-use mathlib.Core.List.{List, [], _∷_, _++_}
-use lib.ListN.{length, take, drop, set, getD}
-use lib.Seq.{take-all, take-length, drop-length, drop-nil}
-use Rattle.numbers.specs.Reports.{filled, told}
-use mathlib.Core.Path.{sym, _∙_}
-use Prim.Native.Nat.{_+_, _-_}
-use native.Mathlib.Nat.{zero-add, suc-add, le-refl}
-use lib.ListN.{length-drop}
-use mathlib.Core.List.{append-nil}
-use lib.Seq.{take-nil}
-use Rattle.numbers.specs.Reports.{filledBehind}
+use Prim.Native.Nat.{ℕ, zero, suc, _+_, _-_, _≤_, _<_}
+use native.Mathlib.Nat.{not-suc-le-zero, le-of-suc-le-suc, zero-add, suc-add, le-refl}
+use native.Mathlib.Omega.{arith}
+use mathlib.Core.Path.{_≡_, refl, ap, sym, _∙_}
+use mathlib.Core.List.{List, [], _∷_, _++_, append-nil}
+use lib.ListN.{length, take, drop, set, getD, length-drop}
+use lib.Seq.{take-all, take-length, take-nil, drop-length, drop-nil}
+use Rattle.numbers.specs.Reports.{filled, filledBehind, told}
 
 -- a store extends the numbers put so far
 pub copy-step : (xs d : List ℕ) (i : ℕ) → i < length xs → i < length d → set (take i xs ++ drop i d) i (getD xs i 0) ≡ take (suc i) xs ++ drop (suc i) d
@@ -50,7 +44,8 @@ pub behind-none : (n : ℕ) (xs d : List ℕ) → length d ≤ n → filledBehin
 unfolding filledBehind
 behind-none n xs d h = rw (drop-beyond n d h, filled-empty xs, append-nil (take n d)) (take-all n d h)
 
-filled-none : (d : List ℕ) → filled [] d ≡ d
+-- no numbers leave the array as it was
+pub filled-none : (d : List ℕ) → filled [] d ≡ d
 unfolding filled
 filled-none d = rw (take-nil (length d)) refl
 
@@ -88,3 +83,7 @@ copied-whole xs d n h k =
     let p : length xs ≤ n = rw h (le-refl n) in
     let q : length d ≤ n = rw k (le-refl n) in
     rw (take-all n xs p, drop-beyond n d q) (append-nil xs)
+
+-- a part to the end of a list
+pub part-is : (at : ℕ) (ns : List ℕ) → take (length ns - at) (drop at ns) ≡ drop at ns
+part-is at ns = take-all (length ns - at) (drop at ns) (rw (length-drop at ns) (omega arith))

@@ -1,7 +1,9 @@
 -- What an exported function answers: one number, and further numbers into a lent array.
 use Prim.Native.Nat.{ℕ}
-use mathlib.Core.List.{List, _++_}
+use mathlib.Core.List.{List, [], _∷_, _++_}
 use lib.ListN.{length, take, drop}
+use Rattle.sflow.specs.declared.Refusal.{Refusal}
+use Rattle.sflow.specs.Refusals.{refusalNumber}
 
 -- the number that is returned, and the numbers that go into the lent array
 pub record Report : Type 0 where
@@ -25,3 +27,15 @@ tell x d = told (x .number) (filled (x .numbers) d)
 -- an array with numbers put behind its first n, as many as it has room for
 unfoldable pub filledBehind : ℕ → List ℕ → List ℕ → List ℕ
 filledBehind n xs d = take n d ++ filled xs (drop n d)
+
+-- a refusal's number, and its offset
+abbrev pub refusalReport : Refusal → ℕ → Report
+refusalReport why p = report (refusalNumber why) (p ∷ [])
+
+-- the number returned, the lent buffer afterwards, and the lent array afterwards
+pub data Handed : Type 0 where
+  handed : ℕ → List ℕ → List ℕ → Handed
+
+-- a number and an array told, with a buffer
+abbrev pub withBuffer : List ℕ → Told → Handed
+withBuffer d (told n xs) = handed n d xs

@@ -1,9 +1,10 @@
 // Numbers into a lent array: what a function for C and Rust answers beyond one number.
+use sflow::Refusal;
 ghost use Prim.Native.Nat.{_≤_};
 ghost use mathlib.Core.Path.{_≡_};
 ghost use mathlib.Core.List.{_++_};
 ghost use lib.ListN.{length, take, drop};
-ghost use Rattle.numbers.specs.Reports.{filled, filledBehind};
+ghost use Rattle.numbers.specs.Reports.{filled, filledBehind, told, tell, refusalReport};
 
 // Puts the first n numbers to the front of an array.
 fn copy(out: &mut [u64], xs: &[u64], n: usize)
@@ -36,4 +37,12 @@ pub fn fill_behind(out: &mut [u64], n: usize, xs: &[u64])
         return;
     }
     fill(&mut out[n..], xs);
+}
+
+// A refusal's number; the array takes its offset.
+pub fn refuse(why: Refusal, p: usize, out: &mut [u64]) -> u32
+    ensures { λ r. ⌜ told r (now (out .exit)) ≡ tell (refusalReport why p) (now (out .entry)) ⌝ }
+{
+    fill(out, &[p as u64]);
+    sflow::refusal_number(why)
 }

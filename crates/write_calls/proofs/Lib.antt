@@ -1,4 +1,1 @@
 pub mod Writings
-pub mod ListedLines
-pub mod LedgerTables
-pub mod LedgerRows

@@ -4,29 +4,25 @@ use borrow.Author.Needs.{needs}
 use Rattle.numbers.proofs.fill.Statement.{statement}
 use Rattle.numbers.proofs.fill.Tie as tie
 
--- src/numbers.rt:25:9
 copy-requires : tie.Need-copy-requires
 copy-requires c κs = search needs
 
--- src/numbers.rt:26:9
 same-length : tie.Need-same-length
 same-length c = search needs
 
--- src/numbers.rt:26:9
 returns : tie.Need-returns
-returns c = (c .before .before .copy .ensures) ∙ sym (filled-whole (c .before .before .before .before .before .before .before .args .xs .now) (c .before .before .before .before .before .before .before .args .out .now) (search needs))
+returns c = let begin = c .before .before .before .before .before .before .before in
+    (c .before .before .copy .ensures) ∙ sym (filled-whole (begin .args .xs .now) (begin .args .out .now) (search needs))
 
--- src/numbers.rt:28:5
 copy-requires-2 : tie.Need-copy-requires-2
 copy-requires-2 c κs = search needs
 
--- src/numbers.rt:21:1
 same-length-2 : tie.Need-same-length-2
 same-length-2 c = search needs
 
--- src/numbers.rt:21:1
 returns-2 : tie.Need-returns-2
-returns-2 c = (c .before .before .copy2 .ensures) ∙ sym (filled-part (c .before .before .before .before .before .before .before .args .xs .now) (c .before .before .before .before .before .before .before .args .out .now) (search needs))
+returns-2 c = let begin = c .before .before .before .before .before .before .before in
+    (c .before .before .copy2 .ensures) ∙ sym (filled-part (begin .args .xs .now) (begin .args .out .now) (search needs))
 
 pub fill-spec : {M : Type 1} → statement M
 fill-spec =

@@ -1,0 +1,2 @@
+pub mod LedgerTables
+pub mod LedgerRows

@@ -1,0 +1,77 @@
+-- The answers of reading a sample as numbers.
+use Prim.Native.Nat.{ℕ, _-_}
+use mathlib.Core.List.{List, [], _∷_, _++_}
+use Rattle.sflow.specs.Decode.{decode}
+use Rattle.sflow.specs.Datagram.{counters-type}
+use Rattle.packet_data.specs.declared.PacketData.{PacketData}
+use Rattle.packet_data.specs.declared.PacketData.the-variants.{Header, Ipv4, Ipv6}
+use Rattle.counter_data.specs.declared.CounterAnswer.{CounterAnswer}
+use Rattle.counter_data.specs.declared.CounterAnswer.the-variants.{Found as FoundCount, Refused as RefusedCount}
+use Rattle.counter_data.specs.declared.CounterValues.{CounterValues}
+use Rattle.counter_data.specs.CounterBodies.{counterValuesOf}
+use Rattle.reader.specs.declared.sample.FlowWords.{FlowWords}
+use Rattle.reader.specs.declared.sample.FlowSample.{FlowSample}
+use Rattle.reader.specs.declared.sample.CountersSample.{CountersSample}
+use Rattle.reader.specs.declared.sample.SampleValues.{SampleValues}
+use Rattle.reader.specs.declared.sample.SampleValues.the-variants.{Flow, Counters}
+use Rattle.reader.specs.declared.sample.SampleRead.{SampleRead}
+use Rattle.reader.specs.declared.sample.SampleRead.the-variants.{Found as FoundSample, Refused as RefusedSample}
+use Rattle.numbers.specs.Reports.{Report, report, refusalReport}
+use Rattle.numbers.specs.Addresses.{quadNumbers}
+
+-- the packet data type
+abbrev pub packetType : PacketData → ℕ
+packetType (Header h) = 1
+packetType (Ipv4 p) = 2
+packetType (Ipv6 p) = 3
+
+-- header: protocol, frame length, offset and length of the header's octets; IPv4 and IPv6: the fields in order, an IPv6 address as four words
+abbrev pub packetNumbers : PacketData → List ℕ
+packetNumbers (Header h) = h .protocol ∷ h .«frame_length» ∷ h .header .at ∷ h .header .length ∷ []
+packetNumbers (Ipv4 p) =
+    p .length ∷ p .protocol ∷ p .«src_ip» ∷ p .«dst_ip» ∷ p .«src_port» ∷ p .«dst_port» ∷ p .«tcp_flags» ∷ p .tos ∷ []
+packetNumbers (Ipv6 p) =
+    p .length ∷ p .protocol
+    ∷ (quadNumbers (p .«src_ip») ++ (quadNumbers (p .«dst_ip») ++ (p .«src_port» ∷ p .«dst_port» ∷ p .«tcp_flags» ∷ p .priority ∷ [])))
+
+-- the words that a flow sample begins with
+abbrev pub wordNumbers : FlowWords → List ℕ
+wordNumbers w =
+    w .«sequence_number» ∷ w .«source_id» ∷ w .«sampling_rate» ∷ w .«sample_pool» ∷ w .drops ∷ w .input ∷ w .output ∷ []
+
+-- the words, the packet data type, the count of extended entries and the offset of the first, then the packet data's numbers
+abbrev pub flowNumbers : FlowSample → List ℕ
+flowNumbers f =
+    wordNumbers (f .words)
+    ++ (packetType (f .«packet_data») ∷ f .«extended_data» .count ∷ f .«extended_data» .at ∷ packetNumbers (f .«packet_data»))
+
+-- how many counters were found
+abbrev pub counterCount : CounterAnswer → ℕ
+counterCount (FoundCount c next) = c .count
+counterCount (RefusedCount why p) = 0
+
+-- the counters of a sample, read from the octets at their version word, 4 octets before the first counter
+abbrev pub countersIn : List ℕ → CountersSample → CounterValues
+countersIn s x = counterValuesOf (decode counters-type s (x .counters .at - 4))
+
+-- the words, the counters version, how many counters there are, then the counters with zeros behind them, 37 numbers
+abbrev pub countersNumbers : List ℕ → CountersSample → List ℕ
+countersNumbers s x =
+    x .«sequence_number» ∷ x .«source_id» ∷ x .«sampling_interval» ∷ x .counters .version
+    ∷ counterCount (countersIn s x .answer)
+    ∷ countersIn s x .numbers
+
+-- 1 for a flow sample, 2 for a counter sample
+abbrev pub sampleKind : SampleValues → ℕ
+sampleKind (Flow x) = 1
+sampleKind (Counters x) = 2
+
+-- the numbers of a sample of these octets
+abbrev pub sampleNumbers : List ℕ → SampleValues → List ℕ
+sampleNumbers s (Flow x) = flowNumbers x
+sampleNumbers s (Counters x) = countersNumbers s x
+
+-- 0; kind, offset and length of a sample of these octets, then its numbers
+abbrev pub sampleReport : List ℕ → SampleRead → Report
+sampleReport s (FoundSample x next) = report 0 (sampleKind (x .values) ∷ x .offset ∷ x .length ∷ sampleNumbers s (x .values))
+sampleReport s (RefusedSample why p) = refusalReport why p

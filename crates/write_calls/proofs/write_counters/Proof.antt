@@ -1,0 +1,25 @@
+use Rattle.write_calls.proofs.Writings.{handing}
+use borrow.Author.Needs.{needs}
+use Rattle.write_calls.proofs.write_counters.Statement.{statement}
+use Rattle.write_calls.proofs.write_counters.Tie as tie
+
+write-counters-requires : tie.Need-write-counters-requires
+write-counters-requires c κs = search needs
+
+report-requires : tie.Need-report-requires
+report-requires c κs = search needs
+
+same-length : tie.Need-same-length
+same-length c = search needs
+
+same-length-2 : tie.Need-same-length-2
+same-length-2 c = search needs
+
+returns : tie.Need-returns
+returns c =
+    handing (c .before .before .before .before .before .before .before .before .before .before .before .args .out .now)
+    (c .before .before .before .before .before .before .write-counters .ensures) (c .before .before .report .ensures)
+
+pub write-counters-spec : {M : Type 1} → statement M
+write-counters-spec =
+    tie.close (tie.spec write-counters-requires report-requires same-length same-length-2 returns)
