@@ -3,7 +3,7 @@
 ghost use Rattle.engine.specs.Results.{engineOf};
 ghost use Rattle.extended_data.specs.ExtendedData.{segmentOf, asSegment, extendedOf, asExtended};
 ghost use Rattle.form_writer.specs.Parts.{writeValue};
-ghost use Rattle.listing.specs.Lines.{writeLine};
+ghost use Rattle.record_lines.specs.Lines.{writeLine};
 ghost use Rattle.listing.specs.Texts.{endLines};
 ghost use Rattle.numbers.specs.Reports.{told, tell};
 ghost use Rattle.read_calls.specs.Reading.{headReport, sampleReport, extendedReport, segmentReport};

@@ -1,6 +1,6 @@
 use borrow.Author.Needs.{needs}
 use mathlib.Core.Path.{refl}
-use Rattle.listing.specs.declared.Listed.the-variants.{NoRoom}
+use Rattle.record_lines.specs.declared.Listed.the-variants.{NoRoom}
 use Rattle.listing.proofs.Captures.{step-whole}
 use Rattle.listing.proofs.list_whole.Statement.{statement}
 use Rattle.listing.proofs.list_whole.Tie as tie
