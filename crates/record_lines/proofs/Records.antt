@@ -4,16 +4,20 @@ use native.Mathlib.Nat.{not-suc-le-zero}
 use native.Mathlib.Omega.{arith}
 use mathlib.Core.Path.{_≡_, refl, sym}
 use mathlib.Core.Bool.{Bool, true, false, cond}
-use mathlib.Core.List.{List, [], _++_}
+use mathlib.Core.List.{List, [], _∷_, _++_}
 use lib.ListN.{length}
 use lib.Dec.{ltb}
 use borrow.Author.Tests.{le-leb, lt-leb}
+use types.Run.{OneOf, miss}
+use denote.Enum.Declared.{tagOf}
+use Rattle.reader.proofs.datagram.Step.{the-type}
 use Rattle.sflow.specs.declared.Refusal.{Refusal}
 use Rattle.sflow.specs.declared.Refusal.the-variants.{Trailing}
 use Rattle.sflow.specs.Refusals.{refusalNumber}
 use Rattle.fields.specs.declared.strings.Passed.the-variants.{Next}
 use Rattle.reader.specs.declared.sample.Sample.{Sample}
 use Rattle.reader.specs.declared.datagram.Cursor.{Cursor}
+use Rattle.reader.specs.declared.datagram.Step.{Step}
 use Rattle.reader.specs.declared.datagram.Step.the-variants.{Found as FoundSample, End, Refused as Stopped}
 use Rattle.reader.specs.declared.datagram.HeadRead.{HeadRead}
 use Rattle.reader.specs.declared.datagram.HeadRead.the-variants.{Found, Refused}
@@ -59,16 +63,14 @@ unfolding walk
 walked-more s zero at x c h e = absurd (not-suc-le-zero h)
 walked-more s (suc left) at x c h e = let f : suc left - 1 ≡ left = omega arith in rw (e, f)
 
-pub walked-stop : (s : List ℕ) (left at : ℕ) (why : Refusal) (p : ℕ) → 0 < left
-    → stepAt s (record { at = at; left = left }) ≡ Stopped why p → walked s left at ≡ []
+-- a step that finds no sample
+pub walked-over : (s : List ℕ) (left at : ℕ) (x : Step) → 0 < left → x ≡ stepAt s (record { at = at; left = left })
+    → OneOf (1 ∷ 2 ∷ []) (tagOf the-type x) → walked s left at ≡ []
 unfolding walk
-walked-stop s zero at why p h e = absurd (not-suc-le-zero h)
-walked-stop s (suc left) at why p h e = rw e
-
-pub walked-none : (s : List ℕ) (left at : ℕ) → 0 < left → stepAt s (record { at = at; left = left }) ≡ End → walked s left at ≡ []
-unfolding walk
-walked-none s zero at h e = absurd (not-suc-le-zero h)
-walked-none s (suc left) at h e = rw e
+walked-over s zero at x h e o = absurd (not-suc-le-zero h)
+walked-over s (suc left) at (FoundSample x c) h e o = absurd (miss (1 ∷ 2 ∷ []) 0 tt o)
+walked-over s (suc left) at End h e o = rw (sym e)
+walked-over s (suc left) at (Stopped why p) h e o = rw (sym e)
 
 -- ---- a record
 

@@ -354,14 +354,12 @@ fn sample_lines(d: &mut [u8], at: usize, s: &[u8], first: usize, count: u32) -> 
     let mut place = first;
     let mut left = count;
     while 0 < left {
-        match reader::datagram::next_sample(s, Cursor { at: place, left }) {
-            Step::End => return out,
-            Step::Refused(why, p) => return out,
-            Step::Found(sample, behind) => {
-                out = sample_line(d, out, sample);
-                place = behind.at;
-            }
-        }
+        let step = reader::datagram::next_sample(s, Cursor { at: place, left });
+        let Step::Found(sample, behind) = step else {
+            return out;
+        };
+        out = sample_line(d, out, sample);
+        place = behind.at;
         left -= 1;
     }
     out

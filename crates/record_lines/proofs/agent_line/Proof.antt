@@ -39,7 +39,11 @@ same-length c = search needs
 -- src/lib.rt:220:1
 returns : tie.Need-returns
 unfolding agentLine
-returns c = (then (then (then (c .before .before .before .before .before .before .before .before .before .before .before .before .before .before .before .before .before .agent-start .ensures .0) (c .before .before .before .before .before .before .before .before .before .before .before .before .before .agent-text .ensures .0) (search needs)) (c .before .before .before .before .before .before .before .labelled .ensures .0) (search needs)) (c .before .before .ending-line .ensures .0) (search needs), search needs)
+returns c =
+    let at-labelled = c .before .before .before .before .before .before .before in
+    let at-agent-text = at-labelled .before .before .before .before .before .before in
+    let at-agent-start = at-agent-text .before .before .before .before in
+    (then (then (then (at-agent-start .agent-start .ensures .0) (at-agent-text .agent-text .ensures .0) (search needs)) (at-labelled .labelled .ensures .0) (search needs)) (c .before .before .ending-line .ensures .0) (search needs), search needs)
 
 pub agent-line-spec : {M : Type 1} → statement M
 agent-line-spec =

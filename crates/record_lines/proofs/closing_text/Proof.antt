@@ -17,7 +17,10 @@ same-length c = search needs
 
 -- src/lib.rt:349:9
 returns : tie.Need-returns
-returns c = rw (c .before .before .before .before .before .before .before .before .if1 .taken) (then (c .before .before .before .before .before .before .bad-text .ensures .0) (c .before .before .last-text .ensures .0) (search needs))
+returns c =
+    let at-bad-text = c .before .before .before .before .before .before in
+    let at-if1 = at-bad-text .before .before in
+    rw (at-if1 .if1 .taken) (then (at-bad-text .bad-text .ensures .0) (c .before .before .last-text .ensures .0) (search needs))
 
 -- src/lib.rt:351:5
 last-text-requires-2 : tie.Need-last-text-requires-2

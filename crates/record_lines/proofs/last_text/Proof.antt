@@ -35,7 +35,10 @@ same-length c = search needs
 -- src/lib.rt:297:1
 returns : tie.Need-returns
 unfolding lastLine
-returns c = (then (then (c .before .before .before .before .before .before .before .before .before .before .before .before .labelled .ensures .0) (c .before .before .before .before .before .before .before .labelled2 .ensures .0) (search needs)) (c .before .before .ending-line .ensures .0) (search needs), search needs)
+returns c =
+    let at-labelled2 = c .before .before .before .before .before .before .before in
+    let at-labelled = at-labelled2 .before .before .before .before .before in
+    (then (then (at-labelled .labelled .ensures .0) (at-labelled2 .labelled2 .ensures .0) (search needs)) (c .before .before .ending-line .ensures .0) (search needs), search needs)
 
 pub last-text-spec : {M : Type 1} → statement M
 last-text-spec =

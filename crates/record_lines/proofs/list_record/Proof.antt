@@ -71,7 +71,11 @@ same-length c = search needs
 -- src/lib.rt:359:1
 returns-4 : tie.Need-returns-4
 unfolding headOf
-returns-4 c = lists-refused _ _ _ _ _ _ _ _ _ (sym (c .before .before .before .before .before .before .before .before .read .ensures) ∙ c .before .before .before .before .before .before .why .given .1) (c .before .before .before .before .refusal-number .ensures) (c .before .before .refused-line .ensures .0) (omega arith)
+returns-4 c =
+    let at-refusal-number = c .before .before .before .before in
+    let at-why = at-refusal-number .before .before in
+    let at-read = at-why .before .before in
+    lists-refused _ _ _ _ _ _ _ _ _ (sym (at-read .read .ensures) ∙ at-why .why .given .1) (at-refusal-number .refusal-number .ensures) (c .before .before .refused-line .ensures .0) (omega arith)
 
 -- src/lib.rt:359:1
 same-length-2 : tie.Need-same-length-2
@@ -80,7 +84,11 @@ same-length-2 c = search needs
 -- src/lib.rt:359:1
 returns-5 : tie.Need-returns-5
 unfolding headOf
-returns-5 c = lists _ _ _ _ _ _ _ (sym (c .before .before .before .before .before .before .before .before .before .before .before .before .read .ensures) ∙ c .before .before .before .before .before .before .before .before .before .before .head .given .1) (then (c .before .before .before .before .before .before .agent-line .ensures .0) (c .before .before .sample-lines .ensures .0) (omega arith)) (omega arith)
+returns-5 c =
+    let at-agent-line = c .before .before .before .before .before .before in
+    let at-head = at-agent-line .before .before .before .before in
+    let at-read = at-head .before .before in
+    lists _ _ _ _ _ _ _ (sym (at-read .read .ensures) ∙ at-head .head .given .1) (then (at-agent-line .agent-line .ensures .0) (c .before .before .sample-lines .ensures .0) (omega arith)) (omega arith)
 
 pub list-record-spec : {M : Type 1} → statement M
 list-record-spec =

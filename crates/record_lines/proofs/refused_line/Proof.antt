@@ -31,7 +31,10 @@ same-length c = search needs
 -- src/lib.rt:231:1
 returns : tie.Need-returns
 unfolding refusedLine
-returns c = (then (then (c .before .before .before .before .before .before .before .before .before .before .before .before .number .ensures .0) (c .before .before .before .before .before .before .before .labelled .ensures .0) (search needs)) (c .before .before .ending-line .ensures .0) (search needs), search needs)
+returns c =
+    let at-labelled = c .before .before .before .before .before .before .before in
+    let at-number = at-labelled .before .before .before .before .before in
+    (then (then (at-number .number .ensures .0) (at-labelled .labelled .ensures .0) (search needs)) (c .before .before .ending-line .ensures .0) (search needs), search needs)
 
 pub refused-line-spec : {M : Type 1} → statement M
 refused-line-spec =

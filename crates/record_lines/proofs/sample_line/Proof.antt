@@ -37,7 +37,10 @@ same-length c = search needs
 -- src/lib.rt:210:1
 returns : tie.Need-returns
 unfolding sampleLine
-returns c = let x = c .before .before .before .before .before .before .before .before .before .args .x in (puts-as (ap (sampleTextOf (x .offset) (x .length)) (c .before .before .before .before .before .before .values .given .1)) (c .before .before .sample-text .ensures .0), omega arith)
+returns c =
+    let at-values = c .before .before .before .before .before .before in
+    let start = at-values .before .before .before in
+    let x = start .args .x in (puts-as (ap (sampleTextOf (x .offset) (x .length)) (at-values .values .given .1)) (c .before .before .sample-text .ensures .0), omega arith)
 
 -- src/lib.rt:210:1
 same-length-2 : tie.Need-same-length-2
@@ -46,7 +49,10 @@ same-length-2 c = search needs
 -- src/lib.rt:210:1
 returns-2 : tie.Need-returns-2
 unfolding sampleLine
-returns-2 c = let x = c .before .before .before .before .before .before .before .before .before .args .x in (puts-as (ap (sampleTextOf (x .offset) (x .length)) (c .before .before .before .before .before .before .values2 .given .1)) (c .before .before .sample-text2 .ensures .0), omega arith)
+returns-2 c =
+    let at-values2 = c .before .before .before .before .before .before in
+    let start = at-values2 .before .before .before in
+    let x = start .args .x in (puts-as (ap (sampleTextOf (x .offset) (x .length)) (at-values2 .values2 .given .1)) (c .before .before .sample-text2 .ensures .0), omega arith)
 
 pub sample-line-spec : {M : Type 1} → statement M
 sample-line-spec =
