@@ -6,7 +6,7 @@ ghost use Rattle.form_calls.specs.Forms.{written};
 ghost use Rattle.form_writer.specs.Parts.{writeValue};
 ghost use Rattle.ledger_calls.specs.LedgerTable.{flowEntry, enteredTable};
 ghost use Rattle.line_calls.specs.ListedLines.{listedLines, countedTo, endedAt};
-ghost use Rattle.listing.specs.Lines.{writeLine};
+ghost use Rattle.record_lines.specs.Lines.{writeLine};
 ghost use Rattle.listing.specs.Texts.{endLines};
 ghost use Rattle.numbers.specs.Addresses.{addressWith};
 ghost use Rattle.numbers.specs.Reports.{told, tell, handed};

@@ -10,7 +10,7 @@ ghost use mathlib.Core.Path.{_≡_};
 ghost use mathlib.Core.Bool.{not};
 ghost use lib.ListN.{length};
 ghost use lib.Dec.{eqb};
-ghost use Rattle.listing.specs.Lines.{writeLine};
+ghost use Rattle.record_lines.specs.Lines.{writeLine};
 ghost use Rattle.listing.specs.Texts.{endLines};
 ghost use Rattle.numbers.specs.Reports.{told, tell, handed};
 ghost use Rattle.line_calls.specs.ListedLines.{stopNumber, stateIn, placeReport, listedLines, countedTo, endedAt};

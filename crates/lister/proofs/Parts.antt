@@ -10,7 +10,7 @@ use Rattle.xdr.specs.Writes.{wrote, stored}
 use Rattle.xdr.specs.declared.Written.the-variants.{WrittenTo, Full}
 use Rattle.listing.specs.declared.State.{State}
 use Rattle.listing.specs.declared.Place.{Place}
-use Rattle.listing.specs.Lines.{writeLine}
+use Rattle.record_lines.specs.Lines.{writeLine}
 use Rattle.listing.specs.Captures.{placed, listAll}
 use Rattle.listing.proofs.Inside.{listed-inside, stored-inside}
 

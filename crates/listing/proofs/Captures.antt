@@ -9,9 +9,9 @@ use lib.ListN.{length, getD, take, drop, length-drop}
 use lib.Seq.{getD-drop, drop-drop}
 use lib.Dec.{leb, ltb, eqb}
 use borrow.Author.Tests.{le-leb, lt-leb, le-ltb, lt-ltb, eq-eqb, ne-eqb, leb-true}
-use Rattle.listing.specs.Records.{listing, listRecord}
+use Rattle.record_lines.specs.Records.{listing, listRecord}
 use Rattle.listing.specs.Captures.{lengthIn, recordOf, datagramIn, more, behind, stoppedAs, placed, stepAt, isOver, listFrom}
-use Rattle.listing.specs.declared.Listed.{Listed}
+use Rattle.record_lines.specs.declared.Listed.{Listed}
 use Rattle.listing.specs.declared.Frame.the-variants.{Whole, Short, Wrong}
 use Rattle.listing.specs.declared.Stop.the-variants.{NoRecord, BadRecord}
 use Rattle.listing.specs.declared.Place.{Place}

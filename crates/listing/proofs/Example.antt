@@ -9,9 +9,9 @@ use Rattle.sflow.specs.Grammar.{encode, octetsOfEach}
 use Rattle.sflow.specs.Decode.{decode, entries}
 use Rattle.sflow.specs.Reading.{readDatagram}
 use Rattle.reader.specs.Datagrams.{stepAt, walk}
-use Rattle.listing.specs.Digits.{decimal, shown}
-use Rattle.listing.specs.Lines.{ending, sourceText, sampleText, sampleLine, dotted, agentText, agentLine, refusedLine, badLine, lastLine}
-use Rattle.listing.specs.Records.{headOf, recordLines}
+use Rattle.record_lines.specs.Digits.{decimal, shown}
+use Rattle.record_lines.specs.Lines.{ending, sourceText, sampleText, sampleLine, dotted, agentText, agentLine, refusedLine, badLine, lastLine}
+use Rattle.record_lines.specs.Records.{headOf, recordLines}
 use Rattle.listing.specs.Captures.{recordOf}
 use Rattle.listing.specs.Texts.{start, behindRecord, textOf, textWithin, textFrom, captureOf}
 

@@ -6,9 +6,9 @@ use mathlib.Core.Bool.{Bool, true, false, cond}
 use mathlib.Core.List.{List, _++_}
 use lib.ListN.{length, drop, length-append}
 use Rattle.xdr.specs.Writes.{stored}
-use Rattle.listing.specs.Records.{Listing, listing, listRecord}
+use Rattle.record_lines.specs.Records.{Listing, listing, listRecord}
 use Rattle.listing.specs.Captures.{recordOf, datagramIn, more, placed, Placed, onFrame, onListing, goOn, stepAt, isOver, listFrom, listAll, begins}
-use Rattle.listing.specs.declared.Listed.the-variants.{Accepted, Refused, NoRoom}
+use Rattle.record_lines.specs.declared.Listed.the-variants.{Accepted, Refused, NoRoom}
 use Rattle.listing.specs.declared.Frame.{Frame}
 use Rattle.listing.specs.declared.Frame.the-variants.{Whole, Short, Wrong}
 use Rattle.listing.specs.declared.State.{State}

@@ -13,18 +13,18 @@ use Rattle.xdr.specs.Writes.{stored}
 use Rattle.xdr.proofs.Writing.{stored-front, stored-back}
 use Rattle.reader.specs.declared.datagram.HeadRead.{HeadRead}
 use Rattle.reader.specs.declared.datagram.HeadRead.the-variants.{Found, Refused}
-use Rattle.listing.specs.Records.{headOf, recordLines, roomOf, answerTo, listing, listRecord}
+use Rattle.record_lines.specs.Records.{headOf, recordLines, roomOf, answerTo, listing, listRecord}
 use Rattle.listing.specs.Captures.{recordOf, datagramIn, more, behind, stoppedAs, placed, Placed, onFrame, onListing, goOn}
 use Rattle.listing.specs.Captures.{stepAt, isOver, listFrom, listAll, begins}
 use Rattle.listing.specs.Texts.{countedAs, behindRecord, textOf, onRecord, textWithin, textFrom, recordWith, captureOf, textsOf, behindAll}
-use Rattle.listing.specs.declared.Listed.the-variants.{NoRoom}
+use Rattle.record_lines.specs.declared.Listed.the-variants.{NoRoom}
 use Rattle.listing.specs.declared.Frame.{Frame}
 use Rattle.listing.specs.declared.Frame.the-variants.{Whole, Short, Wrong}
 use Rattle.listing.specs.declared.Stop.{Stop}
 use Rattle.listing.specs.declared.Stop.the-variants.{NoRecord, Output, BadRecord}
 use Rattle.listing.specs.declared.State.{State}
 use Rattle.listing.specs.declared.Place.{Place}
-use Rattle.listing.proofs.Digits.{stored-none}
+use Rattle.record_lines.proofs.Digits.{stored-none}
 
 -- ---- the text does not go by the number of turns, where they are enough
 

@@ -4,9 +4,9 @@ use mathlib.Core.Bool.{Bool, true, false, cond}
 use mathlib.Core.List.{List}
 use lib.ListN.{length, getD, take, drop}
 use lib.Dec.{leb, ltb, eqb}
-use Rattle.listing.specs.Records.{Listing, listing, listRecord}
-use Rattle.listing.specs.declared.Listed.{Listed}
-use Rattle.listing.specs.declared.Listed.the-variants.{Accepted, Refused as RefusedRecord, NoRoom}
+use Rattle.record_lines.specs.Records.{Listing, listing, listRecord}
+use Rattle.record_lines.specs.declared.Listed.{Listed}
+use Rattle.record_lines.specs.declared.Listed.the-variants.{Accepted, Refused as RefusedRecord, NoRoom}
 use Rattle.listing.specs.declared.Frame.{Frame}
 use Rattle.listing.specs.declared.Frame.the-variants.{Whole, Short, Wrong}
 use Rattle.listing.specs.declared.Stop.{Stop}

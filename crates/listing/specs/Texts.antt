@@ -5,8 +5,8 @@ use mathlib.Core.List.{List, [], _∷_, _++_}
 use lib.ListN.{length, drop}
 use Rattle.reader.specs.declared.datagram.HeadRead.{HeadRead}
 use Rattle.reader.specs.declared.datagram.HeadRead.the-variants.{Found, Refused}
-use Rattle.listing.specs.Lines.{badLine, lastLine}
-use Rattle.listing.specs.Records.{headOf, recordLines}
+use Rattle.record_lines.specs.Lines.{closingLines}
+use Rattle.record_lines.specs.Records.{headOf, recordLines}
 use Rattle.listing.specs.Captures.{recordOf, datagramIn, more, accepted, refused}
 use Rattle.listing.specs.declared.Frame.{Frame}
 use Rattle.listing.specs.declared.Frame.the-variants.{Whole, Short, Wrong}
@@ -30,8 +30,7 @@ textOf t x = recordLines (more (t .records) 1) x
 
 -- what follows the last record: where the capture goes wrong there, the line that says so, then the last line
 abbrev pub endLines : State → Bool → List ℕ
-endLines t false = lastLine (t .records) (t .refused) (t .samples)
-endLines t true = badLine (t .offset) ++ lastLine (t .records) (t .refused) (t .samples)
+endLines t bad = closingLines bad (t .offset) (t .records) (t .refused) (t .samples)
 
 -- where no whole record follows: the end of the capture, or a bad record at the offset
 abbrev pub endText : State → List ℕ → List ℕ

@@ -14,7 +14,9 @@ sub-if2 c = search needs
 
 -- src/lib.rt:441:9
 returns-2 : tie.Need-returns-2
-returns-2 c = frame-short (c .before .before .before .args .s .now) (c .before .before .before .args .at) (omega arith)
+returns-2 c =
+    let start = c .before .before .before in
+    frame-short (start .args .s .now) (start .args .at) (omega arith)
 
 -- src/lib.rt:443:8
 shared-slice-read-if3 : tie.Need-shared-slice-read-if3
@@ -22,7 +24,9 @@ shared-slice-read-if3 c = search needs
 
 -- src/lib.rt:444:9
 returns-3 : tie.Need-returns-3
-returns-3 c = frame-first (c .before .before .before .before .before .args .s .now) (c .before .before .before .before .before .args .at) (omega arith) (c .if3 .taken)
+returns-3 c =
+    let start = c .before .before .before .before .before in
+    frame-first (start .args .s .now) (start .args .at) (omega arith) (c .if3 .taken)
 
 -- src/lib.rt:446:10
 add-if4 : tie.Need-add-if4
@@ -34,7 +38,9 @@ shared-slice-read-if4 c = search needs
 
 -- src/lib.rt:447:9
 returns-4 : tie.Need-returns-4
-returns-4 c = frame-second (c .before .before .before .before .before .before .before .args .s .now) (c .before .before .before .before .before .before .before .args .at) (omega arith) (c .before .before .if3 .left) (c .if4 .taken)
+returns-4 c =
+    let start = c .before .before .before .before .before .before .before in
+    frame-second (start .args .s .now) (start .args .at) (omega arith) (c .before .before .if3 .left) (c .if4 .taken)
 
 -- src/lib.rt:449:20
 add-wide : tie.Need-add-wide
@@ -70,7 +76,12 @@ add-n c = search needs
 
 -- src/lib.rt:451:9
 returns-5 : tie.Need-returns-5
-returns-5 c = frame-long (c .before .before .before .before .before .before .before .before .before .before .before .before .args .s .now) (c .before .before .before .before .before .before .before .before .before .before .before .before .args .at) (omega arith) _ _ (c .before .before .before .before .before .before .before .if3 .left) (c .before .before .before .before .before .if4 .left) (c .before .before .before .wide .ensures .0) (c .before .wide2 .ensures .0) (c .if5 .taken)
+returns-5 c =
+    let at-wide = c .before .before .before in
+    let at-if4 = at-wide .before .before in
+    let at-if3 = at-if4 .before .before in
+    let start = at-if3 .before .before .before .before .before in
+    frame-long (start .args .s .now) (start .args .at) (omega arith) _ _ (at-if3 .if3 .left) (at-if4 .if4 .left) (at-wide .wide .ensures .0) (c .before .wide2 .ensures .0) (c .if5 .taken)
 
 -- src/lib.rt:453:8
 sub-if6 : tie.Need-sub-if6
@@ -82,11 +93,21 @@ sub-if6-2 c = search needs
 
 -- src/lib.rt:454:9
 returns-6 : tie.Need-returns-6
-returns-6 c = frame-cut (c .before .before .before .before .before .before .before .before .before .before .before .before .before .args .s .now) (c .before .before .before .before .before .before .before .before .before .before .before .before .before .args .at) (omega arith) _ _ (c .before .before .before .before .before .before .before .before .if3 .left) (c .before .before .before .before .before .before .if4 .left) (c .before .before .before .before .wide .ensures .0) (c .before .before .wide2 .ensures .0) (c .before .if5 .left) (omega arith)
+returns-6 c =
+    let at-wide = c .before .before .before .before in
+    let at-if4 = at-wide .before .before in
+    let at-if3 = at-if4 .before .before in
+    let start = at-if3 .before .before .before .before .before in
+    frame-cut (start .args .s .now) (start .args .at) (omega arith) _ _ (at-if3 .if3 .left) (at-if4 .if4 .left) (at-wide .wide .ensures .0) (c .before .before .wide2 .ensures .0) (c .before .if5 .left) (omega arith)
 
 -- src/lib.rt:434:1
 returns-7 : tie.Need-returns-7
-returns-7 c = frame-whole (c .before .before .before .before .before .before .before .before .before .before .before .before .before .args .s .now) (c .before .before .before .before .before .before .before .before .before .before .before .before .before .args .at) (omega arith) _ _ (c .before .before .before .before .before .before .before .before .if3 .left) (c .before .before .before .before .before .before .if4 .left) (c .before .before .before .before .wide .ensures .0) (c .before .before .wide2 .ensures .0) (c .before .if5 .left) (omega arith)
+returns-7 c =
+    let at-wide = c .before .before .before .before in
+    let at-if4 = at-wide .before .before in
+    let at-if3 = at-if4 .before .before in
+    let start = at-if3 .before .before .before .before .before in
+    frame-whole (start .args .s .now) (start .args .at) (omega arith) _ _ (at-if3 .if3 .left) (at-if4 .if4 .left) (at-wide .wide .ensures .0) (c .before .before .wide2 .ensures .0) (c .before .if5 .left) (omega arith)
 
 pub frame-at-spec : {M : Type 1} → statement M
 frame-at-spec =

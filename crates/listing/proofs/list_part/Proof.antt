@@ -3,7 +3,7 @@ use Prim.Native.Nat.{ℕ, _+_, _-_}
 use native.Mathlib.Omega.{arith}
 use mathlib.Core.Path.{_≡_, ap, _∙_}
 use lib.ListN.{take, drop}
-use Rattle.listing.specs.Records.{listRecord}
+use Rattle.record_lines.specs.Records.{listRecord}
 use Rattle.listing.proofs.list_part.Statement.{statement}
 use Rattle.listing.proofs.list_part.Tie as tie
 

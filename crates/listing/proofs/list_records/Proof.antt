@@ -31,7 +31,11 @@ same-length c = search needs
 -- src/lib.rt:592:13
 returns : tie.Need-returns Inv-loop μ-loop
 unfolding listAll
-returns c = sym (list-stop _ _ _ _ _ _ (c .before .before .before .before .before .before .loop-test .taken) (c .before .before .before .before .step .ensures) (sym (c .before .is-over .ensures) ∙ c .if1 .taken)) ∙ c .before .before .before .before .before .before .before .loop .inv .1
+returns c =
+    let at-step = c .before .before .before .before in
+    let at-test = at-step .before .before in
+    let at-loop = at-test .before in
+    sym (list-stop _ _ _ _ _ _ (at-test .loop-test .taken) (at-step .step .ensures) (sym (c .before .is-over .ensures) ∙ c .if1 .taken)) ∙ at-loop .loop .inv .1
 
 -- src/lib.rt:594:9
 sub-turns : tie.Need-sub-turns Inv-loop μ-loop
@@ -43,7 +47,11 @@ loop-less c = search needs
 
 -- src/lib.rt:588:5
 loop-again : tie.Need-loop-again Inv-loop μ-loop
-loop-again c = (search needs, sym (list-more _ _ _ _ _ _ (c .before .before .before .before .before .before .loop-test .taken) (c .before .before .before .before .step .ensures) (sym (c .before .is-over .ensures) ∙ c .if1 .left)) ∙ c .before .before .before .before .before .before .before .loop .inv .1)
+loop-again c =
+    let at-step = c .before .before .before .before in
+    let at-test = at-step .before .before in
+    let at-loop = at-test .before in
+    (search needs, sym (list-more _ _ _ _ _ _ (at-test .loop-test .taken) (at-step .step .ensures) (sym (c .before .is-over .ensures) ∙ c .if1 .left)) ∙ at-loop .loop .inv .1)
 
 -- src/lib.rt:578:1
 same-length-2 : tie.Need-same-length-2 Inv-loop μ-loop

@@ -1,6 +1,6 @@
 use borrow.Author.Needs.{needs}
 use mathlib.Core.Path.{refl}
-use Rattle.listing.specs.declared.Listed.the-variants.{NoRoom}
+use Rattle.record_lines.specs.declared.Listed.the-variants.{NoRoom}
 use Rattle.listing.proofs.Captures.{step-whole}
 use Rattle.listing.proofs.list_whole.Statement.{statement}
 use Rattle.listing.proofs.list_whole.Tie as tie
@@ -71,7 +71,11 @@ same-length c = search needs
 
 -- src/lib.rt:532:1
 returns : tie.Need-returns
-returns c = step-whole _ _ _ (c .before .before .before .before .before .before .before .before .before .before .before .before .args .p) _ (c .before .before .before .before .before .before .before .before .before .before .before .before .args .n) _ _ _ NoRoom (c .stopped .ensures) (c .before .before .before .before .before .before .before .before .before .before .before .before .pre .0) refl (c .before .before .before .before .before .before .before .before .before .wrapping-add-u64 .ensures) (c .before .before .before .before .before .list-part .ensures) (c .before .enum-told .given .1)
+returns c =
+    let at-list-part = c .before .before .before .before .before in
+    let at-index = at-list-part .before .before .before .before in
+    let start = at-index .before .before .before in
+    step-whole _ _ _ (start .args .p) _ (start .args .n) _ _ _ NoRoom (c .stopped .ensures) (start .pre .0) refl (at-index .wrapping-add-u64 .ensures) (at-list-part .list-part .ensures) (c .before .enum-told .given .1)
 
 -- src/lib.rt:532:1
 same-length-2 : tie.Need-same-length-2
@@ -79,7 +83,12 @@ same-length-2 c = search needs
 
 -- src/lib.rt:532:1
 returns-2 : tie.Need-returns-2
-returns-2 c = step-whole _ _ _ (c .before .before .before .before .before .before .before .before .before .before .before .before .before .before .args .p) _ (c .before .before .before .before .before .before .before .before .before .before .before .before .before .before .args .n) _ _ _ _ (rw (c .count-refused .ensures)) (c .before .before .before .before .before .before .before .before .before .before .before .before .before .before .pre .0) refl (c .before .before .before .before .before .before .before .before .before .before .before .wrapping-add-u64 .ensures) (c .before .before .before .before .before .before .before .list-part .ensures) (c .before .before .before .out .given .1)
+returns-2 c =
+    let at-out = c .before .before .before in
+    let at-list-part = at-out .before .before .before .before in
+    let at-index = at-list-part .before .before .before .before in
+    let start = at-index .before .before .before in
+    step-whole _ _ _ (start .args .p) _ (start .args .n) _ _ _ _ (rw (c .count-refused .ensures)) (start .pre .0) refl (at-index .wrapping-add-u64 .ensures) (at-list-part .list-part .ensures) (at-out .out .given .1)
 
 -- src/lib.rt:532:1
 same-length-3 : tie.Need-same-length-3
@@ -87,7 +96,12 @@ same-length-3 c = search needs
 
 -- src/lib.rt:532:1
 returns-3 : tie.Need-returns-3
-returns-3 c = step-whole _ _ _ (c .before .before .before .before .before .before .before .before .before .before .before .before .before .before .args .p) _ (c .before .before .before .before .before .before .before .before .before .before .before .before .before .before .args .n) _ _ _ _ (rw (c .count-accepted .ensures)) (c .before .before .before .before .before .before .before .before .before .before .before .before .before .before .pre .0) refl (c .before .before .before .before .before .before .before .before .before .before .before .wrapping-add-u64 .ensures) (c .before .before .before .before .before .before .before .list-part .ensures) (c .before .before .before .out2 .given .1)
+returns-3 c =
+    let at-out2 = c .before .before .before in
+    let at-list-part = at-out2 .before .before .before .before in
+    let at-index = at-list-part .before .before .before .before in
+    let start = at-index .before .before .before in
+    step-whole _ _ _ (start .args .p) _ (start .args .n) _ _ _ _ (rw (c .count-accepted .ensures)) (start .pre .0) refl (at-index .wrapping-add-u64 .ensures) (at-list-part .list-part .ensures) (at-out2 .out2 .given .1)
 
 pub list-whole-spec : {M : Type 1} → statement M
 list-whole-spec =

@@ -30,15 +30,24 @@ enum-known-n c = search needs
 
 -- src/lib.rt:562:28
 list-whole-requires : tie.Need-list-whole-requires
-list-whole-requires c κs = let e = sym (c .before .before .before .before .frame-at .ensures) ∙ c .before .before .n .given .1 in (e, whole-at (c .before .before .before .before .before .before .before .args .s .now) (c .before .before .before .before .before .before .before .args .p .at) _ e)
+list-whole-requires c κs =
+    let at-frame-at = c .before .before .before .before in
+    let start = at-frame-at .before .before .before in
+    let e = sym (at-frame-at .frame-at .ensures) ∙ c .before .before .n .given .1 in (e, whole-at (start .args .s .now) (start .args .p .at) _ e)
 
 -- src/lib.rt:556:1
 returns : tie.Need-returns
-returns c = step-short _ _ (c .before .before .before .before .before .before .args .p) _ (c .stopped .ensures) (sym (c .before .before .before .frame-at .ensures) ∙ c .before .enum-told .given .1)
+returns c =
+    let at-frame-at = c .before .before .before in
+    let start = at-frame-at .before .before .before in
+    step-short _ _ (start .args .p) _ (c .stopped .ensures) (sym (at-frame-at .frame-at .ensures) ∙ c .before .enum-told .given .1)
 
 -- src/lib.rt:556:1
 returns-2 : tie.Need-returns-2
-returns-2 c = step-wrong _ _ (c .before .before .before .before .before .before .args .p) _ (c .stopped2 .ensures) (sym (c .before .before .before .frame-at .ensures) ∙ c .before .enum-told2 .given .1)
+returns-2 c =
+    let at-frame-at = c .before .before .before in
+    let start = at-frame-at .before .before .before in
+    step-wrong _ _ (start .args .p) _ (c .stopped2 .ensures) (sym (at-frame-at .frame-at .ensures) ∙ c .before .enum-told2 .given .1)
 
 -- src/lib.rt:556:1
 same-length : tie.Need-same-length
