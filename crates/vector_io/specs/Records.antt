@@ -1,20 +1,12 @@
--- The records that the vectors are written as.
-use Prim.Native.Nat.{ℕ, _+_}
-use mathlib.Core.Bool.{cond}
+-- What reading a record leaves.
+use Prim.Native.Nat.{ℕ, _≤_}
+use mathlib.Core.Path.{_≡_}
 use mathlib.Core.List.{List}
-use lib.ListN.{length}
-use lib.Dec.{leb}
-use Rattle.xdr.specs.Items.{wordAt}
-use Rattle.xdr.specs.declared.WordRead.{WordRead}
-use Rattle.xdr.specs.declared.WordRead.the-variants.{Word, CutWord}
+use lib.ListN.{length, drop}
 use Rattle.vector_io.specs.declared.RecordRead.{RecordRead}
 use Rattle.vector_io.specs.declared.RecordRead.the-variants.{Record, NoRecord}
 
--- a record whose length was read, in so many octets
-unfoldable pub recordOf : ℕ → WordRead → RecordRead
-recordOf size (Word n first) = cond (leb (first + n) size) (Record first (first + n)) NoRecord
-recordOf size (CutWord at) = NoRecord
-
--- the record that begins at an offset with its length in four octets
-unfoldable pub recordAt : List ℕ → ℕ → RecordRead
-recordAt s at = recordOf (length s) (wordAt s at)
+-- a buffer before and after a record was read to its front: the record fits, and the octets behind it stay
+abbrev pub ReadInto : List ℕ → RecordRead → List ℕ → Type 0
+ReadInto before (Record n) after = (n ≤ length before) × (drop n after ≡ drop n before)
+ReadInto before NoRecord after = Unit {0}

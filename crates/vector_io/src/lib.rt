@@ -5,34 +5,41 @@ use libc::STDOUT_FILENO;
 use xdr::WordRead;
 ghost use mathlib.Core.Path.{_≡_};
 ghost use Prim.Native.Nat.{_-_};
-ghost use lib.ListN.{take, drop};
-ghost use Rattle.io.specs.Counts.{Counts};
-ghost use Rattle.vector_io.specs.Records.{recordAt};
+ghost use lib.ListN.{length, take, drop, replicate};
+ghost use Rattle.vector_io.specs.Records.{ReadInto};
 
-// Reads standard input to the front of a buffer, until it ends or the buffer is full, and answers how many octets came.
-pub fn read_input(buffer: &mut [u8]) -> usize
-    ensures { λ r. ⌜ Counts r (now (buffer .exit)) ⌝ }
+// Room for a record: no datagram, sample or rule set of the vectors is longer.
+pub fn room() -> [u8; 131072]
+    ensures { λ r. ⌜ (131072 ≡ length r) × (r ≡ replicate 131072 0) ⌝ }
 {
-    io::read_full(STDIN_FILENO, buffer)
+    [0; 131072]
 }
 
-// A record behind its length in four octets: where its octets begin and end. There is none where the length or some of the octets are missing.
+// A record's length; none at the end of the input, or where the record is cut or has no room.
 pub enum RecordRead {
-    Record(usize, usize),
+    Record(usize),
     NoRecord,
 }
 
-pub fn next_record(s: &[u8], at: usize) -> RecordRead
-    ensures { λ r. ⌜ r ≡ recordAt (now (s .entry)) at ⌝ }
+// Reads the next record of standard input, which stands behind its length in four octets, to the front of a buffer.
+pub fn read_record(buffer: &mut [u8]) -> RecordRead
+    ensures { λ r. ⌜ ReadInto (now (buffer .entry)) r (now (buffer .exit)) ⌝ }
 {
-    let WordRead::Word(length, first) = xdr::read_word(s, at) else {
+    let mut prefix = [0u8; 4];
+    if io::read_full(STDIN_FILENO, &mut prefix) < 4 {
+        return RecordRead::NoRecord;
+    }
+    let WordRead::Word(length, _) = xdr::read_word(&prefix, 0) else {
         return RecordRead::NoRecord;
     };
     let n = length as usize;
-    if s.len() - first < n {
+    if buffer.len() < n {
         return RecordRead::NoRecord;
     }
-    RecordRead::Record(first, first + n)
+    if io::read_full(STDIN_FILENO, &mut buffer[..n]) < n {
+        return RecordRead::NoRecord;
+    }
+    RecordRead::Record(n)
 }
 
 // The octets between two places, as far as they are there.
