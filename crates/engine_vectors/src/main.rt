@@ -5,35 +5,26 @@ use engine::EngineAnswer;
 use engine::FlowKey;
 use vector_io::RecordRead;
 
+// Whether a number is an attribute's.
+fn known(attribute: usize) -> bool {
+    match attribute {
+        4 | 8 | 9 | 11 | 12 | 14 | 18 | 19 | 21 | 22 => true,
+        _ => false,
+    }
+}
+
 // The mask and the value of each attribute.
 fn key(k: FlowKey) {
-    let m = k.masks;
-    let v = k.values;
-    vector_io::line(
-        b" key",
-        &[
-            m[4] as u64,
-            v[4] as u64,
-            m[8] as u64,
-            v[8] as u64,
-            m[9] as u64,
-            v[9] as u64,
-            m[11] as u64,
-            v[11] as u64,
-            m[12] as u64,
-            v[12] as u64,
-            m[14] as u64,
-            v[14] as u64,
-            m[18] as u64,
-            v[18] as u64,
-            m[19] as u64,
-            v[19] as u64,
-            m[21] as u64,
-            v[21] as u64,
-            m[22] as u64,
-            v[22] as u64,
-        ],
-    );
+    let masks = k.masks;
+    let values = k.values;
+    let mut i = 0;
+    while i < 23 {
+        if known(i) {
+            vector_io::show(b"", &[masks[i] as u64, values[i] as u64]);
+        }
+        i += 1;
+    }
+    vector_io::line(b"", &[]);
 }
 
 fn pair(s: &[u8], x: &[u8]) {
@@ -46,6 +37,7 @@ fn pair(s: &[u8], x: &[u8]) {
         _ => {
             vector_io::show(b"answer", &[number as u64]);
             vector_io::show(b" rules", &[r.rules]);
+            vector_io::show(b" key", &[]);
             key(r.key);
         }
     }
