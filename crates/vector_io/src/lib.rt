@@ -58,17 +58,29 @@ pub fn part(s: &[u8], at: usize, end: usize) -> &[u8]
     &s[at..end]
 }
 
+// Writes a text and behind it so many numbers of a list, from a place on and as far as they are there, a space before each.
+pub fn show_part(text: &[u8], numbers: &[u64], at: usize, count: usize)
+    ensures { λ _. ⊤ₛ }
+{
+    io::write_all(STDOUT_FILENO, text);
+    let mut i = at;
+    let mut left = count;
+    while 0 < left {
+        if numbers.len() <= i {
+            return;
+        }
+        io::write_all(STDOUT_FILENO, b" ");
+        io::print_decimal(STDOUT_FILENO, numbers[i]);
+        i += 1;
+        left -= 1;
+    }
+}
+
 // Writes a text and behind it numbers, a space before each.
 pub fn show(text: &[u8], numbers: &[u64])
     ensures { λ _. ⊤ₛ }
 {
-    io::write_all(STDOUT_FILENO, text);
-    let mut i = 0;
-    while i < numbers.len() {
-        io::write_all(STDOUT_FILENO, b" ");
-        io::print_decimal(STDOUT_FILENO, numbers[i]);
-        i += 1;
-    }
+    show_part(text, numbers, 0, numbers.len());
 }
 
 // The same as a line.
