@@ -1,9 +1,6 @@
 // Reads datagrams from standard input, each behind its length in four octets, and writes what the reader gives of each: every value of an
 // accepted datagram, or the number and place of the refusal. The datagrams and the expected text come from the second program in conformance/.
 use read_calls::reading;
-use reader::datagram::Cursor;
-use reader::datagram::HeadRead;
-use reader::datagram::Step;
 use vector_io::RecordRead;
 use xdr::WordRead;
 
@@ -90,26 +87,24 @@ fn counters(x: &[u64; 45]) {
     vector_io::line(b"", &[]);
 }
 
-fn sample(s: &[u8], at: usize) {
+// The sample at a place; answers the place behind it.
+fn sample(s: &[u8], at: u64) -> u64 {
     let mut x = [0u64; 45];
-    reading::sample(s, at, &mut x);
+    reading::sample(s, at as usize, &mut x);
     if x[0] == 1 {
         flow(s, &x);
     } else {
         counters(&x);
     }
+    std::num::wrapping_add_u64(at, x[2])
 }
 
-fn samples(s: &[u8], first: Cursor) {
-    let mut c = first;
-    let mut turns = s.len();
-    while 0 < turns {
-        let Step::Found(x, next) = reader::datagram::next_sample(s, c) else {
-            return;
-        };
-        sample(s, x.offset);
-        c = next;
-        turns -= 1;
+fn samples(s: &[u8], count: u64, first: u64) {
+    let mut at = first;
+    let mut left = count;
+    while 0 < left {
+        at = sample(s, at);
+        left -= 1;
     }
 }
 
@@ -123,15 +118,14 @@ fn accepted(x: &[u64; 9]) {
 }
 
 fn datagram(s: &[u8]) {
-    match reader::datagram::read(s) {
-        HeadRead::Refused(why, p) => vector_io::refused(sflow::refusal_number(why), p),
-        HeadRead::Found(head) => {
-            let mut x = [0u64; 9];
-            reading::read(s, &mut x);
-            accepted(&x);
-            samples(s, reader::datagram::start(head));
-        }
+    let mut x = [0u64; 9];
+    let number = reading::read(s, &mut x);
+    if number != 0 {
+        vector_io::refused(number, x[0] as usize);
+        return;
     }
+    accepted(&x);
+    samples(s, x[7], x[8]);
 }
 
 // Reads one datagram and answers whether there was one.

@@ -3,10 +3,10 @@ use Rattle.reader_vectors.proofs.samples.Statement.{statement}
 use Rattle.reader_vectors.proofs.samples.Tie as tie
 
 abbrev Inv-loop : tie.InvT-loop
-Inv-loop s c₀ turns₀ c turns = Unit {0}
+Inv-loop s count first at₀ left₀ at left = Unit {0}
 
 abbrev μ-loop : tie.MeasureT-loop
-μ-loop s c₀ turns₀ c turns = turns
+μ-loop s count first at₀ left₀ at left = left
 
 pub samples-spec : {M : Type 1} → statement M
 samples-spec =
@@ -15,9 +15,6 @@ samples-spec =
     Inv-loop
     μ-loop
     (λ c. tt)
-    (λ c κs. search needs)
-    (λ c. search needs)
-    (λ c. search needs)
     (λ c κs. search needs)
     (λ c. search needs)
     (λ c. search needs)
