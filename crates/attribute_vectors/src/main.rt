@@ -1,47 +1,30 @@
 // Reads octets from standard input, each vector behind its length in four octets, and writes the ten attributes of each that is exactly one flow
 // sample. The vectors and the expected text come from the second program in conformance/.
-use libc::STDIN_FILENO;
-use libc::STDOUT_FILENO;
 use packet::Attributes;
 use reader::sample::SampleRead;
 use reader::sample::SampleValues;
-use xdr::WordRead;
-
-fn text(t: &[u8]) {
-    io::write_all(STDOUT_FILENO, t);
-}
-
-// A space and the value of an attribute.
-fn value(a: Attributes, number: u8) {
-    text(b" ");
-    io::print_decimal(STDOUT_FILENO, packet::attribute(a, number) as u64);
-}
-
-fn source(a: Attributes) {
-    value(a, 4);
-    value(a, 8);
-    value(a, 9);
-    value(a, 11);
-    value(a, 12);
-}
-
-fn dest(a: Attributes) {
-    value(a, 14);
-    value(a, 18);
-    value(a, 19);
-    value(a, 21);
-    value(a, 22);
-}
+use vector_io::RecordRead;
 
 fn attributes(a: Attributes) {
-    text(b"attributes");
-    source(a);
-    dest(a);
-    text(b"\n");
+    vector_io::line(
+        b"attributes",
+        &[
+            packet::attribute(a, 4) as u64,
+            packet::attribute(a, 8) as u64,
+            packet::attribute(a, 9) as u64,
+            packet::attribute(a, 11) as u64,
+            packet::attribute(a, 12) as u64,
+            packet::attribute(a, 14) as u64,
+            packet::attribute(a, 18) as u64,
+            packet::attribute(a, 19) as u64,
+            packet::attribute(a, 21) as u64,
+            packet::attribute(a, 22) as u64,
+        ],
+    );
 }
 
 fn no_flow_sample() {
-    text(b"no flow sample\n");
+    vector_io::line(b"no flow sample", &[]);
 }
 
 fn vector(s: &[u8]) {
@@ -60,53 +43,22 @@ fn vector(s: &[u8]) {
     }
 }
 
-// Reads so many octets to the front of the input and answers whether all came.
-fn fill(input: &mut [u8], length: usize) -> bool {
-    if input.len() < length {
-        return false;
-    }
-    let part = &mut input[..length];
-    let got = io::read_full(STDIN_FILENO, part);
-    got == length
-}
-
-// The length in front of a vector; one that no buffer holds where there is none.
-fn length() -> usize {
-    let mut prefix = [0u8; 4];
-    if io::read_full(STDIN_FILENO, &mut prefix) < 4 {
-        return usize::MAX;
-    }
-    let WordRead::Word(n, _) = xdr::read_word(&prefix, 0) else {
-        return usize::MAX;
-    };
-    n as usize
-}
-
 // Reads one vector and answers whether there was one.
-fn next(input: &mut [u8]) -> bool {
-    let n = length();
-    if !fill(input, n) {
+fn turn() -> bool {
+    let mut room = vector_io::room();
+    let RecordRead::Record(n) = vector_io::read_record(&mut room) else {
         return false;
-    }
-    if input.len() < n {
-        return false;
-    }
-    vector(&input[..n]);
+    };
+    vector(vector_io::part(&room, 0, n));
     true
 }
 
-fn run(input: &mut [u8]) {
+fn main() {
     let mut turns = u64::MAX;
     while 0 < turns {
-        if !next(input) {
+        if !turn() {
             return;
         }
         turns -= 1;
     }
-}
-
-// A sample on its own may be longer than a datagram.
-fn main() {
-    let mut input = [0u8; 131072];
-    run(&mut input);
 }

@@ -7,35 +7,11 @@ use ledger::FlowEntry;
 use ledger::Row;
 use ledger::RowEntered;
 use libc::STDIN_FILENO;
-use libc::STDOUT_FILENO;
 use reader::sample::FlowWords;
 use xdr::HyperRead;
 use xdr::WordRead;
 ghost use mathlib.Core.Path.{_≡_};
 ghost use Rattle.ledger.specs.Ledger.{updated};
-
-fn text(t: &[u8]) {
-    io::write_all(STDOUT_FILENO, t);
-}
-
-// A space and a number.
-fn number(n: u64) {
-    text(b" ");
-    io::print_decimal(STDOUT_FILENO, n);
-}
-
-fn word(n: u32) {
-    number(n as u64);
-}
-
-fn address(a: Address) {
-    word(a.kind);
-    let q = a.octets;
-    word(q.a);
-    word(q.b);
-    word(q.c);
-    word(q.d);
-}
 
 fn flag(b: bool) -> u64 {
     if b {
@@ -45,17 +21,23 @@ fn flag(b: bool) -> u64 {
 }
 
 fn show_row(i: usize, row: Row) {
-    text(b"row");
-    number(i as u64);
-    number(flag(row.used));
-    let agent = row.agent;
-    address(agent);
-    word(row.source_id);
-    word(row.sequence_number);
-    word(row.sample_pool);
-    number(row.lost_total);
-    number(row.pool_total);
-    text(b"\n");
+    vector_io::line(
+        b"row",
+        &[
+            i as u64,
+            flag(row.used),
+            row.agent.kind as u64,
+            row.agent.octets.a as u64,
+            row.agent.octets.b as u64,
+            row.agent.octets.c as u64,
+            row.agent.octets.d as u64,
+            row.source_id as u64,
+            row.sequence_number as u64,
+            row.sample_pool as u64,
+            row.lost_total,
+            row.pool_total,
+        ],
+    );
 }
 
 fn show_table(rows: [Row; 64]) {
@@ -68,9 +50,7 @@ fn show_table(rows: [Row; 64]) {
 }
 
 fn show_answer(answer: EntryAnswer) {
-    text(b"answer");
-    word(ledger::answer_number(answer));
-    text(b"\n");
+    vector_io::line(b"answer", &[ledger::answer_number(answer) as u64]);
 }
 
 // The word at a place of a record, which has all of its words.

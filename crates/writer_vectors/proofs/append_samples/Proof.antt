@@ -1,50 +1,14 @@
+use borrow.Author.Needs.{needs}
 use mathlib.Core.Path.{_≡_}
 use lib.ListN.{length as size}
-use borrow.Author.Needs.{needs}
 use Rattle.writer_vectors.proofs.append_samples.Statement.{statement}
 use Rattle.writer_vectors.proofs.append_samples.Tie as tie
 
 abbrev Inv-loop : tie.InvT-loop
-Inv-loop out₀ start s length₀ at₀ left₀ out length at left = size out ≡ size out₀
+Inv-loop out₀ start s by-values length₀ at₀ left₀ out length at left = size out ≡ size out₀
 
 abbrev μ-loop : tie.MeasureT-loop
-μ-loop out₀ start s length₀ at₀ left₀ out length at left = left
-
-loop-holds : tie.Need-loop-holds Inv-loop μ-loop
-loop-holds c = search needs
-
-pass-sample-requires : tie.Need-pass-sample-requires Inv-loop μ-loop
-pass-sample-requires c κs = search needs
-
-enum-known-end : tie.Need-enum-known-end Inv-loop μ-loop
-enum-known-end c = search needs
-
-enum-told : tie.Need-enum-told Inv-loop μ-loop
-enum-told c = search needs
-
-same-length : tie.Need-same-length Inv-loop μ-loop
-same-length c = search needs
-
-returns : tie.Need-returns Inv-loop μ-loop
-returns c = search needs
-
-append-requires : tie.Need-append-requires Inv-loop μ-loop
-append-requires c κs = search needs
-
-sub-left : tie.Need-sub-left Inv-loop μ-loop
-sub-left c = search needs
-
-loop-less : tie.Need-loop-less Inv-loop μ-loop
-loop-less c = search needs
-
-loop-again : tie.Need-loop-again Inv-loop μ-loop
-loop-again c = search needs
-
-same-length-2 : tie.Need-same-length-2 Inv-loop μ-loop
-same-length-2 c = search needs
-
-returns-2 : tie.Need-returns-2 Inv-loop μ-loop
-returns-2 c = search needs
+μ-loop out₀ start s by-values length₀ at₀ left₀ out length at left = left
 
 pub append-samples-spec : {M : Type 1} → statement M
 append-samples-spec =
@@ -52,15 +16,15 @@ append-samples-spec =
     (tie.spec
     Inv-loop
     μ-loop
-    loop-holds
-    pass-sample-requires
-    enum-known-end
-    enum-told
-    same-length
-    returns
-    append-requires
-    sub-left
-    loop-less
-    loop-again
-    same-length-2
-    returns-2)
+    (λ c. search needs)
+    (λ c κs. search needs)
+    (λ c. search needs)
+    (λ c. search needs)
+    (λ c. search needs)
+    (λ c. search needs)
+    (λ c κs. search needs)
+    (λ c. search needs)
+    (λ c. search needs)
+    (λ c. search needs)
+    (λ c. search needs)
+    (λ c. search needs))
