@@ -4,77 +4,60 @@ use Rattle.listing.proofs.Captures.{frame-short, frame-first, frame-sec
 use Rattle.listing.proofs.frame_at.Statement.{statement}
 use Rattle.listing.proofs.frame_at.Tie as tie
 
--- src/lib.rt:438:9
 returns : tie.Need-returns
 returns c = frame-short (c .before .before .args .s .now) (c .before .before .args .at) (omega arith)
 
--- src/lib.rt:440:8
 sub-if2 : tie.Need-sub-if2
 sub-if2 c = search needs
 
--- src/lib.rt:441:9
 returns-2 : tie.Need-returns-2
 returns-2 c =
     let start = c .before .before .before in
     frame-short (start .args .s .now) (start .args .at) (omega arith)
 
--- src/lib.rt:443:8
 shared-slice-read-if3 : tie.Need-shared-slice-read-if3
 shared-slice-read-if3 c = search needs
 
--- src/lib.rt:444:9
 returns-3 : tie.Need-returns-3
 returns-3 c =
     let start = c .before .before .before .before .before in
     frame-first (start .args .s .now) (start .args .at) (omega arith) (c .if3 .taken)
 
--- src/lib.rt:446:10
 add-if4 : tie.Need-add-if4
 add-if4 c = search needs
 
--- src/lib.rt:446:8
 shared-slice-read-if4 : tie.Need-shared-slice-read-if4
 shared-slice-read-if4 c = search needs
 
--- src/lib.rt:447:9
 returns-4 : tie.Need-returns-4
 returns-4 c =
     let start = c .before .before .before .before .before .before .before in
     frame-second (start .args .s .now) (start .args .at) (omega arith) (c .before .before .if3 .left) (c .if4 .taken)
 
--- src/lib.rt:449:20
 add-wide : tie.Need-add-wide
 add-wide c = search needs
 
--- src/lib.rt:449:18
 shared-slice-read-wide : tie.Need-shared-slice-read-wide
 shared-slice-read-wide c = search needs
 
--- src/lib.rt:449:13
 wide-requires : tie.Need-wide-requires
 wide-requires c κs = search needs
 
--- src/lib.rt:449:13
 mul-n : tie.Need-mul-n
 mul-n c = search needs
 
--- src/lib.rt:449:44
 add-wide-2 : tie.Need-add-wide-2
 add-wide-2 c = search needs
 
--- src/lib.rt:449:42
 shared-slice-read-wide-2 : tie.Need-shared-slice-read-wide-2
 shared-slice-read-wide-2 c = search needs
 
--- src/lib.rt:449:37
 wide-requires-2 : tie.Need-wide-requires-2
 wide-requires-2 c κs = search needs
 
--- src/lib.rt:449:13
 add-n : tie.Need-add-n
 add-n c = search needs
 
--- src/lib.rt:451:9
 returns-5 : tie.Need-returns-5
 returns-5 c =
     let at-wide = c .before .before .before in
@@ -83,15 +66,12 @@ returns-5 c =
     let start = at-if3 .before .before .before .before .before in
     frame-long (start .args .s .now) (start .args .at) (omega arith) _ _ (at-if3 .if3 .left) (at-if4 .if4 .left) (at-wide .wide .ensures .0) (c .before .wide2 .ensures .0) (c .if5 .taken)
 
--- src/lib.rt:453:8
 sub-if6 : tie.Need-sub-if6
 sub-if6 c = search needs
 
--- src/lib.rt:453:8
 sub-if6-2 : tie.Need-sub-if6-2
 sub-if6-2 c = search needs
 
--- src/lib.rt:454:9
 returns-6 : tie.Need-returns-6
 returns-6 c =
     let at-wide = c .before .before .before .before in
@@ -100,7 +80,6 @@ returns-6 c =
     let start = at-if3 .before .before .before .before .before in
     frame-cut (start .args .s .now) (start .args .at) (omega arith) _ _ (at-if3 .if3 .left) (at-if4 .if4 .left) (at-wide .wide .ensures .0) (c .before .before .wide2 .ensures .0) (c .before .if5 .left) (omega arith)
 
--- src/lib.rt:434:1
 returns-7 : tie.Need-returns-7
 returns-7 c =
     let at-wide = c .before .before .before .before in

@@ -7,31 +7,24 @@ use Rattle.record_lines.specs.Records.{listRecord}
 use Rattle.listing.proofs.list_part.Statement.{statement}
 use Rattle.listing.proofs.list_part.Tie as tie
 
--- src/lib.rt:527:41
 add-list-record : tie.Need-add-list-record
 add-list-record c = search needs
 
--- src/lib.rt:527:31
 sub-list-record : tie.Need-sub-list-record
 sub-list-record c = search needs
 
--- src/lib.rt:527:31
 part-list-record-start : tie.Need-part-list-record-start
 part-list-record-start c = search needs
 
--- src/lib.rt:527:31
 part-list-record-end : tie.Need-part-list-record-end
 part-list-record-end c = search needs
 
--- src/lib.rt:527:5
 list-record-requires : tie.Need-list-record-requires
 list-record-requires c κs = search needs
 
--- src/lib.rt:523:1
 same-length : tie.Need-same-length
 same-length c = search needs
 
--- src/lib.rt:523:1
 returns : tie.Need-returns
 returns c = let a = c .before .before .before .before .before .before .before .args in
     let e : a .start + a .n - a .start ≡ a .n = omega arith in

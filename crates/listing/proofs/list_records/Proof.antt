@@ -12,23 +12,18 @@ Inv-loop d₀ s p₀ turns₀ d p turns = (length d ≡ length d₀) × (listFro
 abbrev μ-loop : tie.MeasureT-loop
 μ-loop d₀ s p₀ turns₀ d p turns = turns
 
--- src/lib.rt:588:5
 loop-holds : tie.Need-loop-holds Inv-loop μ-loop
 loop-holds c = (refl, refl)
 
--- src/lib.rt:589:9
 step-requires : tie.Need-step-requires Inv-loop μ-loop
 step-requires c κs = search needs
 
--- src/lib.rt:591:12
 is-over-requires : tie.Need-is-over-requires Inv-loop μ-loop
 is-over-requires c κs = search needs
 
--- src/lib.rt:592:13
 same-length : tie.Need-same-length Inv-loop μ-loop
 same-length c = search needs
 
--- src/lib.rt:592:13
 returns : tie.Need-returns Inv-loop μ-loop
 unfolding listAll
 returns c =
@@ -37,15 +32,12 @@ returns c =
     let at-loop = at-test .before in
     sym (list-stop _ _ _ _ _ _ (at-test .loop-test .taken) (at-step .step .ensures) (sym (c .before .is-over .ensures) ∙ c .if1 .taken)) ∙ at-loop .loop .inv .1
 
--- src/lib.rt:594:9
 sub-turns : tie.Need-sub-turns Inv-loop μ-loop
 sub-turns c = search needs
 
--- src/lib.rt:588:5
 loop-less : tie.Need-loop-less Inv-loop μ-loop
 loop-less c = search needs
 
--- src/lib.rt:588:5
 loop-again : tie.Need-loop-again Inv-loop μ-loop
 loop-again c =
     let at-step = c .before .before .before .before in
@@ -53,11 +45,9 @@ loop-again c =
     let at-loop = at-test .before in
     (search needs, sym (list-more _ _ _ _ _ _ (at-test .loop-test .taken) (at-step .step .ensures) (sym (c .before .is-over .ensures) ∙ c .if1 .left)) ∙ at-loop .loop .inv .1)
 
--- src/lib.rt:578:1
 same-length-2 : tie.Need-same-length-2 Inv-loop μ-loop
 same-length-2 c = search needs
 
--- src/lib.rt:578:1
 returns-2 : tie.Need-returns-2 Inv-loop μ-loop
 unfolding listAll
 returns-2 c = sym (list-end _ _ _ _ (c .loop-test .left)) ∙ c .before .loop .inv .1

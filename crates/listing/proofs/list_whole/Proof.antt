@@ -5,71 +5,54 @@ use Rattle.listing.proofs.Captures.{step-whole}
 use Rattle.listing.proofs.list_whole.Statement.{statement}
 use Rattle.listing.proofs.list_whole.Tie as tie
 
--- src/lib.rt:536:9
 wrapping-add-u64-requires : tie.Need-wrapping-add-u64-requires
 wrapping-add-u64-requires c κs = search needs
 
--- src/lib.rt:538:41
 add-list-part : tie.Need-add-list-part
 add-list-part c = search needs
 
--- src/lib.rt:538:11
 list-part-requires : tie.Need-list-part-requires
 list-part-requires c κs = search needs
 
--- src/lib.rt:539:38
 enum-told : tie.Need-enum-told
 enum-told c = search needs
 
--- src/lib.rt:539:27
 stopped-requires : tie.Need-stopped-requires
 stopped-requires c κs = search needs
 
--- src/lib.rt:540:25
 enum-known-out : tie.Need-enum-known-out
 enum-known-out c = search needs
 
--- src/lib.rt:541:25
 add-t16 : tie.Need-add-t16
 add-t16 c = search needs
 
--- src/lib.rt:541:17
 add-t17 : tie.Need-add-t17
 add-t17 c = search needs
 
--- src/lib.rt:543:41
 add-count-refused : tie.Need-add-count-refused
 add-count-refused c = search needs
 
--- src/lib.rt:543:20
 count-refused-requires : tie.Need-count-refused-requires
 count-refused-requires c κs = search needs
 
--- src/lib.rt:546:26
 enum-known-out-2 : tie.Need-enum-known-out-2
 enum-known-out-2 c = search needs
 
--- src/lib.rt:547:25
 add-t21 : tie.Need-add-t21
 add-t21 c = search needs
 
--- src/lib.rt:547:17
 add-t22 : tie.Need-add-t22
 add-t22 c = search needs
 
--- src/lib.rt:549:42
 add-count-accepted : tie.Need-add-count-accepted
 add-count-accepted c = search needs
 
--- src/lib.rt:549:20
 count-accepted-requires : tie.Need-count-accepted-requires
 count-accepted-requires c κs = search needs
 
--- src/lib.rt:532:1
 same-length : tie.Need-same-length
 same-length c = search needs
 
--- src/lib.rt:532:1
 returns : tie.Need-returns
 returns c =
     let at-list-part = c .before .before .before .before .before in
@@ -77,11 +60,9 @@ returns c =
     let start = at-index .before .before .before in
     step-whole _ _ _ (start .args .p) _ (start .args .n) _ _ _ NoRoom (c .stopped .ensures) (start .pre .0) refl (at-index .wrapping-add-u64 .ensures) (at-list-part .list-part .ensures) (c .before .enum-told .given .1)
 
--- src/lib.rt:532:1
 same-length-2 : tie.Need-same-length-2
 same-length-2 c = search needs
 
--- src/lib.rt:532:1
 returns-2 : tie.Need-returns-2
 returns-2 c =
     let at-out = c .before .before .before in
@@ -90,11 +71,9 @@ returns-2 c =
     let start = at-index .before .before .before in
     step-whole _ _ _ (start .args .p) _ (start .args .n) _ _ _ _ (rw (c .count-refused .ensures)) (start .pre .0) refl (at-index .wrapping-add-u64 .ensures) (at-list-part .list-part .ensures) (at-out .out .given .1)
 
--- src/lib.rt:532:1
 same-length-3 : tie.Need-same-length-3
 same-length-3 c = search needs
 
--- src/lib.rt:532:1
 returns-3 : tie.Need-returns-3
 returns-3 c =
     let at-out2 = c .before .before .before in

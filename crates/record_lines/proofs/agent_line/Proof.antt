@@ -4,39 +4,30 @@ use Rattle.record_lines.specs.Lines.{agentLine}
 use Rattle.record_lines.proofs.agent_line.Statement.{statement}
 use Rattle.record_lines.proofs.agent_line.Tie as tie
 
--- src/lib.rt:224:9
 agent-start-requires : tie.Need-agent-start-requires
 agent-start-requires c κs = search needs
 
--- src/lib.rt:225:9
 agent-text-requires : tie.Need-agent-text-requires
 agent-text-requires c κs = search needs
 
--- src/lib.rt:226:30
 slice-aggregate-labelled : tie.Need-slice-aggregate-labelled
 slice-aggregate-labelled c = search needs
 
--- src/lib.rt:226:40
 cast-labelled : tie.Need-cast-labelled
 cast-labelled c = search needs
 
--- src/lib.rt:226:9
 labelled-requires : tie.Need-labelled-requires
 labelled-requires c κs = search needs
 
--- src/lib.rt:227:24
 slice-aggregate-ending-line : tie.Need-slice-aggregate-ending-line
 slice-aggregate-ending-line c = search needs
 
--- src/lib.rt:227:5
 ending-line-requires : tie.Need-ending-line-requires
 ending-line-requires c κs = search needs
 
--- src/lib.rt:220:1
 same-length : tie.Need-same-length
 same-length c = search needs
 
--- src/lib.rt:220:1
 returns : tie.Need-returns
 unfolding agentLine
 returns c =

@@ -3,23 +3,18 @@ use Rattle.record_lines.proofs.Puts.{then}
 use Rattle.record_lines.proofs.agent_start.Statement.{statement}
 use Rattle.record_lines.proofs.agent_start.Tie as tie
 
--- src/lib.rt:215:9
 number-requires : tie.Need-number-requires
 number-requires c κs = search needs
 
--- src/lib.rt:216:18
 slice-aggregate-put : tie.Need-slice-aggregate-put
 slice-aggregate-put c = search needs
 
--- src/lib.rt:216:5
 put-requires : tie.Need-put-requires
 put-requires c κs = search needs
 
--- src/lib.rt:211:1
 same-length : tie.Need-same-length
 same-length c = search needs
 
--- src/lib.rt:211:1
 returns : tie.Need-returns
 returns c = (then (c .before .before .before .before .before .before .before .number .ensures .0) (c .before .before .put .ensures) (search needs), search needs)
 

@@ -6,28 +6,22 @@ use Rattle.record_lines.proofs.Puts.{puts-as}
 use Rattle.record_lines.proofs.agent_text.Statement.{statement}
 use Rattle.record_lines.proofs.agent_text.Tie as tie
 
--- src/lib.rt:248:9
 dotted-text-requires : tie.Need-dotted-text-requires
 dotted-text-requires c κs = search needs
 
--- src/lib.rt:248:9
 same-length : tie.Need-same-length
 same-length c = search needs
 
--- src/lib.rt:248:9
 returns : tie.Need-returns
 unfolding agentText
 returns c = (puts-as (simp (eq-eqb _ _ (c .before .before .before .before .if1 .taken))) (c .before .before .dotted-text .ensures .0), search needs)
 
--- src/lib.rt:250:5
 hex-text-requires : tie.Need-hex-text-requires
 hex-text-requires c κs = search needs
 
--- src/lib.rt:243:1
 same-length-2 : tie.Need-same-length-2
 same-length-2 c = search needs
 
--- src/lib.rt:243:1
 returns-2 : tie.Need-returns-2
 unfolding agentText
 returns-2 c = (puts-as (simp (ne-eqb _ _ (c .before .before .before .before .if1 .left))) (c .before .before .hex-text .ensures .0), omega arith)

@@ -4,27 +4,21 @@ use borrow.Author.Needs.{needs}
 use Rattle.record_lines.proofs.closing_lines.Statement.{statement}
 use Rattle.record_lines.proofs.closing_lines.Tie as tie
 
--- src/lib.rt:359:9
 returns : tie.Need-returns
 returns c = line-full _ _ _ _ (omega arith)
 
--- src/lib.rt:361:8
 sub-if2 : tie.Need-sub-if2
 sub-if2 c = search needs
 
--- src/lib.rt:362:9
 returns-2 : tie.Need-returns-2
 returns-2 c = line-full _ _ _ _ (omega arith)
 
--- src/lib.rt:364:24
 closing-text-requires : tie.Need-closing-text-requires
 closing-text-requires c κs = search needs
 
--- src/lib.rt:355:1
 same-length : tie.Need-same-length
 same-length c = search needs
 
--- src/lib.rt:355:1
 returns-3 : tie.Need-returns-3
 returns-3 c = line-fits _ _ _ _ _ _ (omega arith) (c .before .before .closing-text .ensures)
 

@@ -4,55 +4,42 @@ use Rattle.record_lines.specs.Lines.{dotted}
 use Rattle.record_lines.proofs.dotted_text.Statement.{statement}
 use Rattle.record_lines.proofs.dotted_text.Tie as tie
 
--- src/lib.rt:171:28
 cast-number : tie.Need-cast-number
 cast-number c = search needs
 
--- src/lib.rt:171:9
 number-requires : tie.Need-number-requires
 number-requires c κs = search needs
 
--- src/lib.rt:172:30
 slice-aggregate-labelled : tie.Need-slice-aggregate-labelled
 slice-aggregate-labelled c = search needs
 
--- src/lib.rt:172:36
 cast-labelled : tie.Need-cast-labelled
 cast-labelled c = search needs
 
--- src/lib.rt:172:9
 labelled-requires : tie.Need-labelled-requires
 labelled-requires c κs = search needs
 
--- src/lib.rt:173:30
 slice-aggregate-labelled-2 : tie.Need-slice-aggregate-labelled-2
 slice-aggregate-labelled-2 c = search needs
 
--- src/lib.rt:173:36
 cast-labelled-2 : tie.Need-cast-labelled-2
 cast-labelled-2 c = search needs
 
--- src/lib.rt:173:9
 labelled-requires-2 : tie.Need-labelled-requires-2
 labelled-requires-2 c κs = search needs
 
--- src/lib.rt:174:21
 slice-aggregate-labelled-3 : tie.Need-slice-aggregate-labelled-3
 slice-aggregate-labelled-3 c = search needs
 
--- src/lib.rt:174:27
 cast-labelled-3 : tie.Need-cast-labelled-3
 cast-labelled-3 c = search needs
 
--- src/lib.rt:174:5
 labelled-requires-3 : tie.Need-labelled-requires-3
 labelled-requires-3 c κs = search needs
 
--- src/lib.rt:167:1
 same-length : tie.Need-same-length
 same-length c = search needs
 
--- src/lib.rt:167:1
 returns : tie.Need-returns
 unfolding dotted
 returns c =

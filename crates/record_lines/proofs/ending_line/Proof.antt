@@ -4,23 +4,18 @@ use Rattle.record_lines.specs.Lines.{ending}
 use Rattle.record_lines.proofs.ending_line.Statement.{statement}
 use Rattle.record_lines.proofs.ending_line.Tie as tie
 
--- src/lib.rt:143:9
 labelled-requires : tie.Need-labelled-requires
 labelled-requires c κs = search needs
 
--- src/lib.rt:144:18
 slice-aggregate-put : tie.Need-slice-aggregate-put
 slice-aggregate-put c = search needs
 
--- src/lib.rt:144:5
 put-requires : tie.Need-put-requires
 put-requires c κs = search needs
 
--- src/lib.rt:139:1
 same-length : tie.Need-same-length
 same-length c = search needs
 
--- src/lib.rt:139:1
 returns : tie.Need-returns
 unfolding ending
 returns c = (then (c .before .before .before .before .before .before .before .labelled .ensures .0) (c .before .before .put .ensures) (search needs), search needs)

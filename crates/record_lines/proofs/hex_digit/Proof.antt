@@ -3,27 +3,21 @@ use borrow.Author.Tests.{lt-ltb, le-ltb}
 use Rattle.record_lines.proofs.hex_digit.Statement.{statement}
 use Rattle.record_lines.proofs.hex_digit.Tie as tie
 
--- src/lib.rt:92:21
 cast-result : tie.Need-cast-result
 cast-result c = search needs
 
--- src/lib.rt:92:16
 add-result : tie.Need-add-result
 add-result c = search needs
 
--- src/lib.rt:92:9
 returns : tie.Need-returns
 returns c = simp (lt-ltb _ _ (c .if1 .taken))
 
--- src/lib.rt:94:10
 cast-result-2 : tie.Need-cast-result-2
 cast-result-2 c = search needs
 
--- src/lib.rt:94:5
 add-result-2 : tie.Need-add-result-2
 add-result-2 c = search needs
 
--- src/lib.rt:87:1
 returns-2 : tie.Need-returns-2
 returns-2 c = simp (le-ltb _ _ (c .if1 .left))
 

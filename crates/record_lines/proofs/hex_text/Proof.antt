@@ -4,27 +4,21 @@ use Rattle.record_lines.specs.Lines.{hexText}
 use Rattle.record_lines.proofs.hex_text.Statement.{statement}
 use Rattle.record_lines.proofs.hex_text.Tie as tie
 
--- src/lib.rt:182:9
 hex-word-requires : tie.Need-hex-word-requires
 hex-word-requires c κs = search needs
 
--- src/lib.rt:183:9
 hex-word-requires-2 : tie.Need-hex-word-requires-2
 hex-word-requires-2 c κs = search needs
 
--- src/lib.rt:184:9
 hex-word-requires-3 : tie.Need-hex-word-requires-3
 hex-word-requires-3 c κs = search needs
 
--- src/lib.rt:185:5
 hex-word-requires-4 : tie.Need-hex-word-requires-4
 hex-word-requires-4 c κs = search needs
 
--- src/lib.rt:178:1
 same-length : tie.Need-same-length
 same-length c = search needs
 
--- src/lib.rt:178:1
 returns : tie.Need-returns
 unfolding hexText
 returns c =

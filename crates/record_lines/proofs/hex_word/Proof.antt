@@ -15,43 +15,33 @@ Inv-loop d₀ at n i₀ rest₀ d i rest = (length d ≡ length d₀) × (i ≤ 
 abbrev μ-loop : tie.MeasureT-loop
 μ-loop d₀ at n i₀ rest₀ d i rest = i
 
--- src/lib.rt:137:5
 loop-holds : tie.Need-loop-holds Inv-loop μ-loop
 loop-holds c = (refl, search needs, refl)
 
--- src/lib.rt:138:9
 sub-i : tie.Need-sub-i Inv-loop μ-loop
 sub-i c = search needs
 
--- src/lib.rt:139:21
 hex-digit-requires : tie.Need-hex-digit-requires Inv-loop μ-loop
 hex-digit-requires c κs = search needs
 
--- src/lib.rt:139:11
 add-d : tie.Need-add-d Inv-loop μ-loop
 add-d c = search needs
 
--- src/lib.rt:139:9
 slice-write-d : tie.Need-slice-write-d Inv-loop μ-loop
 slice-write-d c = search needs
 
--- src/lib.rt:137:5
 loop-less : tie.Need-loop-less Inv-loop μ-loop
 loop-less c = search needs
 
--- src/lib.rt:137:5
 loop-again : tie.Need-loop-again Inv-loop μ-loop
 loop-again c = (search needs, search needs, spell-next 16 _ _ _ _ _ (c .before .loop-test .taken) (omega arith) (c .hex-digit .ensures) ∙ c .before .before .loop .inv .2)
 
--- src/lib.rt:142:5
 add-result : tie.Need-add-result Inv-loop μ-loop
 add-result c = search needs
 
--- src/lib.rt:131:1
 same-length : tie.Need-same-length Inv-loop μ-loop
 same-length c = search needs
 
--- src/lib.rt:131:1
 returns : tie.Need-returns Inv-loop μ-loop
 returns c = (spelled 16 _ _ _ 8 _ (spell-end 16 _ _ _ _ (c .loop-test .left) ∙ c .before .loop .inv .2), search needs)
 

@@ -3,19 +3,15 @@ use Rattle.record_lines.proofs.Puts.{then}
 use Rattle.record_lines.proofs.labelled.Statement.{statement}
 use Rattle.record_lines.proofs.labelled.Tie as tie
 
--- src/lib.rt:115:9
 put-requires : tie.Need-put-requires
 put-requires c κs = search needs
 
--- src/lib.rt:116:5
 number-requires : tie.Need-number-requires
 number-requires c κs = search needs
 
--- src/lib.rt:111:1
 same-length : tie.Need-same-length
 same-length c = search needs
 
--- src/lib.rt:111:1
 returns : tie.Need-returns
 returns c = (then (c .before .before .before .before .before .before .put .ensures) (c .before .before .number .ensures .0) (search needs), search needs)
 

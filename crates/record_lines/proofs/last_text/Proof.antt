@@ -4,35 +4,27 @@ use Rattle.record_lines.proofs.Puts.{then}
 use Rattle.record_lines.proofs.last_text.Statement.{statement}
 use Rattle.record_lines.proofs.last_text.Tie as tie
 
--- src/lib.rt:301:30
 slice-aggregate-labelled : tie.Need-slice-aggregate-labelled
 slice-aggregate-labelled c = search needs
 
--- src/lib.rt:301:9
 labelled-requires : tie.Need-labelled-requires
 labelled-requires c κs = search needs
 
--- src/lib.rt:302:30
 slice-aggregate-labelled-2 : tie.Need-slice-aggregate-labelled-2
 slice-aggregate-labelled-2 c = search needs
 
--- src/lib.rt:302:9
 labelled-requires-2 : tie.Need-labelled-requires-2
 labelled-requires-2 c κs = search needs
 
--- src/lib.rt:303:24
 slice-aggregate-ending-line : tie.Need-slice-aggregate-ending-line
 slice-aggregate-ending-line c = search needs
 
--- src/lib.rt:303:5
 ending-line-requires : tie.Need-ending-line-requires
 ending-line-requires c κs = search needs
 
--- src/lib.rt:297:1
 same-length : tie.Need-same-length
 same-length c = search needs
 
--- src/lib.rt:297:1
 returns : tie.Need-returns
 unfolding lastLine
 returns c =

@@ -7,68 +7,52 @@ use Rattle.record_lines.proofs.Records.{lists, lists-refused, no-room, 
 use Rattle.record_lines.proofs.list_record.Statement.{statement}
 use Rattle.record_lines.proofs.list_record.Tie as tie
 
--- src/lib.rt:363:9
 returns : tie.Need-returns
 returns c = no-room-at-all _ _ _ _ (omega arith)
 
--- src/lib.rt:365:8
 sub-if2 : tie.Need-sub-if2
 sub-if2 c = search needs
 
--- src/lib.rt:366:9
 returns-2 : tie.Need-returns-2
 returns-2 c = no-room-at-all _ _ _ _ (omega arith)
 
--- src/lib.rt:368:11
 read-requires : tie.Need-read-requires
 read-requires c κs = search needs
 
--- src/lib.rt:369:27
 enum-known-why : tie.Need-enum-known-why
 enum-known-why c = search needs
 
--- src/lib.rt:370:17
 refusal-number-requires : tie.Need-refusal-number-requires
 refusal-number-requires c κs = search needs
 
--- src/lib.rt:371:29
 refused-line-requires : tie.Need-refused-line-requires
 refused-line-requires c κs = search needs
 
--- src/lib.rt:373:25
 enum-known-head : tie.Need-enum-known-head
 enum-known-head c = search needs
 
--- src/lib.rt:375:17
 sub-if3 : tie.Need-sub-if3
 sub-if3 c = search needs
 
--- src/lib.rt:375:17
 sub-if3-2 : tie.Need-sub-if3-2
 sub-if3-2 c = search needs
 
--- src/lib.rt:375:45
 cast-if3 : tie.Need-cast-if3
 cast-if3 c = search needs
 
--- src/lib.rt:376:17
 returns-3 : tie.Need-returns-3
 unfolding headOf
 returns-3 c = no-room _ _ _ _ _ (sym (c .before .before .before .before .read .ensures) ∙ c .before .before .head .given .1) (omega arith)
 
--- src/lib.rt:378:17
 agent-line-requires : tie.Need-agent-line-requires
 agent-line-requires c κs = search needs
 
--- src/lib.rt:379:30
 sample-lines-requires : tie.Need-sample-lines-requires
 sample-lines-requires c κs = search needs
 
--- src/lib.rt:359:1
 same-length : tie.Need-same-length
 same-length c = search needs
 
--- src/lib.rt:359:1
 returns-4 : tie.Need-returns-4
 unfolding headOf
 returns-4 c =
@@ -77,11 +61,9 @@ returns-4 c =
     let at-read = at-why .before .before in
     lists-refused _ _ _ _ _ _ _ _ _ (sym (at-read .read .ensures) ∙ at-why .why .given .1) (at-refusal-number .refusal-number .ensures) (c .before .before .refused-line .ensures .0) (omega arith)
 
--- src/lib.rt:359:1
 same-length-2 : tie.Need-same-length-2
 same-length-2 c = search needs
 
--- src/lib.rt:359:1
 returns-5 : tie.Need-returns-5
 unfolding headOf
 returns-5 c =

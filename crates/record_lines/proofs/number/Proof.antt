@@ -5,23 +5,18 @@ use Rattle.record_lines.proofs.Puts.{puts-as}
 use Rattle.record_lines.proofs.number.Statement.{statement}
 use Rattle.record_lines.proofs.number.Tie as tie
 
--- src/lib.rt:160:9
 width-requires : tie.Need-width-requires
 width-requires c κs = search needs
 
--- src/lib.rt:161:5
 spell-requires : tie.Need-spell-requires
 spell-requires c κs = search needs
 
--- src/lib.rt:162:5
 add-result : tie.Need-add-result
 add-result c = search needs
 
--- src/lib.rt:156:1
 same-length : tie.Need-same-length
 same-length c = search needs
 
--- src/lib.rt:156:1
 returns : tie.Need-returns
 returns c = (puts-as (sym (c .before .before .before .before .width .ensures .0)) (spelled 10 _ _ _ _ _ (c .before .before .spell .ensures)), search needs)
 

@@ -17,45 +17,35 @@ Inv-loop d₀ at s i₀ d i = (i ≤ length s) × (length d ≡ length d₀) × 
 abbrev μ-loop : tie.MeasureT-loop
 μ-loop d₀ at s i₀ d i = length s - i
 
--- src/lib.rt:56:5
 loop-holds : tie.Need-loop-holds Inv-loop μ-loop
 loop-holds c = (search needs, refl, paste-zero (c .args .d .now) (c .args .at) (c .args .s .now))
 
--- src/lib.rt:57:21
 shared-slice-read-d : tie.Need-shared-slice-read-d Inv-loop μ-loop
 shared-slice-read-d c = search needs
 
--- src/lib.rt:57:11
 add-d : tie.Need-add-d Inv-loop μ-loop
 add-d c = search needs
 
--- src/lib.rt:57:9
 slice-write-d : tie.Need-slice-write-d Inv-loop μ-loop
 slice-write-d c = search needs
 
--- src/lib.rt:58:9
 add-i : tie.Need-add-i Inv-loop μ-loop
 add-i c = search needs
 
--- src/lib.rt:56:5
 loop-less : tie.Need-loop-less Inv-loop μ-loop
 loop-less c = search needs
 
--- src/lib.rt:56:5
 loop-again : tie.Need-loop-again Inv-loop μ-loop
 loop-again c = let k = c .before .before in let a = k .before .args in
     let room : a .at + k .loop .i < length (a .d .now) = omega arith in
     (search needs, simp length-set (k .loop .inv .1), rw (k .loop .inv .2, add-one) (paste-suc (a .d .now) (a .at) (a .s .now) (k .loop .i) 0 room (search needs)))
 
--- src/lib.rt:60:5
 add-result : tie.Need-add-result Inv-loop μ-loop
 add-result c = search needs
 
--- src/lib.rt:51:1
 same-length : tie.Need-same-length Inv-loop μ-loop
 same-length c = c .before .loop .inv .1
 
--- src/lib.rt:51:1
 returns : tie.Need-returns Inv-loop μ-loop
 unfolding stored
 returns c = let k = c .before in let a = k .before .args in

@@ -4,31 +4,24 @@ use Rattle.record_lines.specs.Lines.{refusedLine}
 use Rattle.record_lines.proofs.refused_line.Statement.{statement}
 use Rattle.record_lines.proofs.refused_line.Tie as tie
 
--- src/lib.rt:235:9
 number-requires : tie.Need-number-requires
 number-requires c κs = search needs
 
--- src/lib.rt:236:30
 slice-aggregate-labelled : tie.Need-slice-aggregate-labelled
 slice-aggregate-labelled c = search needs
 
--- src/lib.rt:236:9
 labelled-requires : tie.Need-labelled-requires
 labelled-requires c κs = search needs
 
--- src/lib.rt:237:24
 slice-aggregate-ending-line : tie.Need-slice-aggregate-ending-line
 slice-aggregate-ending-line c = search needs
 
--- src/lib.rt:237:5
 ending-line-requires : tie.Need-ending-line-requires
 ending-line-requires c κs = search needs
 
--- src/lib.rt:231:1
 same-length : tie.Need-same-length
 same-length c = search needs
 
--- src/lib.rt:231:1
 returns : tie.Need-returns
 unfolding refusedLine
 returns c =

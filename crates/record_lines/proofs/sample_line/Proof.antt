@@ -6,35 +6,27 @@ use Rattle.record_lines.proofs.Puts.{puts-as}
 use Rattle.record_lines.proofs.sample_line.Statement.{statement}
 use Rattle.record_lines.proofs.sample_line.Tie as tie
 
--- src/lib.rt:216:28
 enum-known-values : tie.Need-enum-known-values
 enum-known-values c = search needs
 
--- src/lib.rt:216:53
 slice-aggregate-sample-text : tie.Need-slice-aggregate-sample-text
 slice-aggregate-sample-text c = search needs
 
--- src/lib.rt:216:34
 sample-text-requires : tie.Need-sample-text-requires
 sample-text-requires c κs = search needs
 
--- src/lib.rt:217:32
 enum-known-values-2 : tie.Need-enum-known-values-2
 enum-known-values-2 c = search needs
 
--- src/lib.rt:217:57
 slice-aggregate-sample-text-2 : tie.Need-slice-aggregate-sample-text-2
 slice-aggregate-sample-text-2 c = search needs
 
--- src/lib.rt:217:38
 sample-text-requires-2 : tie.Need-sample-text-requires-2
 sample-text-requires-2 c κs = search needs
 
--- src/lib.rt:210:1
 same-length : tie.Need-same-length
 same-length c = search needs
 
--- src/lib.rt:210:1
 returns : tie.Need-returns
 unfolding sampleLine
 returns c =
@@ -42,11 +34,9 @@ returns c =
     let start = at-values .before .before .before in
     let x = start .args .x in (puts-as (ap (sampleTextOf (x .offset) (x .length)) (at-values .values .given .1)) (c .before .before .sample-text .ensures .0), omega arith)
 
--- src/lib.rt:210:1
 same-length-2 : tie.Need-same-length-2
 same-length-2 c = search needs
 
--- src/lib.rt:210:1
 returns-2 : tie.Need-returns-2
 unfolding sampleLine
 returns-2 c =

@@ -13,39 +13,30 @@ Inv-loop d₀ at s first count out₀ place₀ left₀ d out place left = (out +
 abbrev μ-loop : tie.MeasureT-loop
 μ-loop d₀ at s first count out₀ place₀ left₀ d out place left = left
 
--- src/lib.rt:376:5
 loop-holds : tie.Need-loop-holds Inv-loop μ-loop
 loop-holds c = (search needs, refl, λ r e h p. p)
 
--- src/lib.rt:377:13
 next-sample-requires : tie.Need-next-sample-requires Inv-loop μ-loop
 next-sample-requires c κs = search needs
 
--- src/lib.rt:378:25
 enum-known-step : tie.Need-enum-known-step Inv-loop μ-loop
 enum-known-step c = search needs
 
--- src/lib.rt:379:13
 same-length : tie.Need-same-length Inv-loop μ-loop
 same-length c = c .before .before .before .loop .inv .1
 
--- src/lib.rt:379:13
 returns : tie.Need-returns Inv-loop μ-loop
 returns c = (leaves-end _ _ _ _ _ _ (c .before .before .before .loop .inv .2) (walked-over _ _ _ _ (c .before .before .loop-test .taken) (c .before .next-sample .ensures) (c .match .keys2)) (omega arith), omega arith)
 
--- src/lib.rt:381:9
 sample-line-requires : tie.Need-sample-line-requires Inv-loop μ-loop
 sample-line-requires c κs = search needs
 
--- src/lib.rt:383:9
 sub-left : tie.Need-sub-left Inv-loop μ-loop
 sub-left c = search needs
 
--- src/lib.rt:376:5
 loop-less : tie.Need-loop-less Inv-loop μ-loop
 loop-less c = search needs
 
--- src/lib.rt:376:5
 loop-again : tie.Need-loop-again Inv-loop μ-loop
 loop-again c =
     let k = c .before .before .before .before .before .before .before in
@@ -53,11 +44,9 @@ loop-again c =
     let found = sym (k .next-sample .ensures) ∙ c .before .before .before .before .before .step .given .1 in
     (omega arith, omega arith, leaves-next _ _ _ _ _ _ _ _ _ _ (l .1) (l .2) (walked-more _ _ _ _ _ (k .before .loop-test .taken) found) (c .before .before .sample-line .ensures .0))
 
--- src/lib.rt:369:1
 same-length-2 : tie.Need-same-length-2 Inv-loop μ-loop
 same-length-2 c = c .before .loop .inv .1
 
--- src/lib.rt:369:1
 returns-2 : tie.Need-returns-2 Inv-loop μ-loop
 returns-2 c = (leaves-end _ _ _ _ _ _ (c .before .loop .inv .2) (walked-end _ _ _ (c .loop-test .left)) (omega arith), omega arith)
 

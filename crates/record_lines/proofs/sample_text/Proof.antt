@@ -4,35 +4,27 @@ use Rattle.record_lines.proofs.Puts.{then}
 use Rattle.record_lines.proofs.sample_text.Statement.{statement}
 use Rattle.record_lines.proofs.sample_text.Tie as tie
 
--- src/lib.rt:203:9
 labelled-requires : tie.Need-labelled-requires
 labelled-requires c κs = search needs
 
--- src/lib.rt:204:30
 slice-aggregate-labelled : tie.Need-slice-aggregate-labelled
 slice-aggregate-labelled c = search needs
 
--- src/lib.rt:204:9
 labelled-requires-2 : tie.Need-labelled-requires-2
 labelled-requires-2 c κs = search needs
 
--- src/lib.rt:205:9
 source-text-requires : tie.Need-source-text-requires
 source-text-requires c κs = search needs
 
--- src/lib.rt:206:24
 slice-aggregate-ending-line : tie.Need-slice-aggregate-ending-line
 slice-aggregate-ending-line c = search needs
 
--- src/lib.rt:206:5
 ending-line-requires : tie.Need-ending-line-requires
 ending-line-requires c κs = search needs
 
--- src/lib.rt:199:1
 same-length : tie.Need-same-length
 same-length c = search needs
 
--- src/lib.rt:199:1
 returns : tie.Need-returns
 unfolding sampleText
 returns c =

@@ -15,43 +15,33 @@ Inv-loop d₀ at n k i₀ rest₀ d i rest = (length d ≡ length d₀) × (i �
 abbrev μ-loop : tie.MeasureT-loop
 μ-loop d₀ at n k i₀ rest₀ d i rest = i
 
--- src/lib.rt:149:5
 loop-holds : tie.Need-loop-holds Inv-loop μ-loop
 loop-holds c = (refl, search needs, refl)
 
--- src/lib.rt:150:9
 sub-i : tie.Need-sub-i Inv-loop μ-loop
 sub-i c = search needs
 
--- src/lib.rt:151:26
 cast-d : tie.Need-cast-d Inv-loop μ-loop
 cast-d c = search needs
 
--- src/lib.rt:151:21
 add-d : tie.Need-add-d Inv-loop μ-loop
 add-d c = search needs
 
--- src/lib.rt:151:11
 add-d-2 : tie.Need-add-d-2 Inv-loop μ-loop
 add-d-2 c = search needs
 
--- src/lib.rt:151:9
 slice-write-d : tie.Need-slice-write-d Inv-loop μ-loop
 slice-write-d c = search needs
 
--- src/lib.rt:149:5
 loop-less : tie.Need-loop-less Inv-loop μ-loop
 loop-less c = search needs
 
--- src/lib.rt:149:5
 loop-again : tie.Need-loop-again Inv-loop μ-loop
 loop-again c = (search needs, search needs, spell-next 10 _ _ _ _ _ (c .loop-test .taken) (omega arith) (ten _) ∙ c .before .loop .inv .2)
 
--- src/lib.rt:143:1
 same-length : tie.Need-same-length Inv-loop μ-loop
 same-length c = search needs
 
--- src/lib.rt:143:1
 returns : tie.Need-returns Inv-loop μ-loop
 returns c = spell-end 10 _ _ _ _ (c .loop-test .left) ∙ c .before .loop .inv .2
 

@@ -4,24 +4,19 @@ use Rattle.record_lines.proofs.Digits.{behind}
 use Rattle.record_lines.proofs.width.Statement.{statement}
 use Rattle.record_lines.proofs.width.Tie as tie
 
--- src/lib.rt:90:9
 narrow-width-requires : tie.Need-narrow-width-requires
 narrow-width-requires c κs = search needs
 
--- src/lib.rt:90:9
 returns : tie.Need-returns
 unfolding decimal
 returns c = (c .narrow-width .ensures .0 20 (search needs), search needs)
 
--- src/lib.rt:92:10
 narrow-width-requires-2 : tie.Need-narrow-width-requires-2
 narrow-width-requires-2 c κs = search needs
 
--- src/lib.rt:92:5
 add-result : tie.Need-add-result
 add-result c = search needs
 
--- src/lib.rt:86:1
 returns-2 : tie.Need-returns-2
 unfolding decimal
 returns-2 c = (behind 10 _ 10 _ (c .before .if1 .left) (c .narrow-width2 .ensures .0 10 (search needs)), search needs)
