@@ -22,7 +22,7 @@ ghost use Rattle.sflow.specs.Datagram.{as-path-type, extended-data-type, sample
 ghost use Rattle.sflow.specs.Decode.{decode, mapped};
 ghost use Rattle.sflow.specs.Grammar.{encode};
 ghost use Rattle.sflow.specs.Reading.{readDatagram};
-ghost use Rattle.write_calls.specs.Writing.{handOver};
+ghost use Rattle.write_reports.specs.WriteReports.{handOver};
 ghost use Rattle.writer.specs.Datagrams.{started, appended};
 ghost use lib.Dec.{eqb};
 ghost use lib.ListN.{length};

@@ -7,13 +7,13 @@ use form_writer::parts::WriteAnswer;
 use packet_data::SampledIpv4;
 use packet_data::SampledIpv6;
 use reader::sample::FlowWords;
-use write_calls::report;
+use write_reports::report;
 ghost use Prim.Native.Nat.{_+_, _≤_};
 ghost use mathlib.Core.Path.{_≡_};
 ghost use lib.ListN.{length};
 ghost use Rattle.form_writer.specs.Parts.{outcome};
 ghost use Rattle.numbers.specs.Reports.{handed};
-ghost use Rattle.write_calls.specs.Writing.{handOver};
+ghost use Rattle.write_reports.specs.WriteReports.{handOver};
 ghost use Rattle.form_calls.specs.Forms.{
   quadIn,
   headerForm,

@@ -2,9 +2,7 @@
 // array, or answers a refusal's number; a refusal leaves the buffer and the array as they were. Crate export gives them to C and Rust.
 use fields::address::Address;
 use fields::address::Quad;
-use form_writer::parts::WriteAnswer;
-use form_writer::parts::answer_number;
-use numbers::fill;
+use write_reports::report;
 ghost use mathlib.Core.Path.{_≡_};
 ghost use Rattle.sflow.specs.Datagram.{sample-type};
 ghost use Rattle.sflow.specs.Grammar.{encode};
@@ -12,20 +10,9 @@ ghost use Rattle.form_writer.specs.Parts.{writeValue};
 ghost use Rattle.sample_writer.specs.FlowValues.{isOne};
 ghost use Rattle.sample_writer.specs.CounterValues.{countersAllowed, countersValue};
 ghost use Rattle.writer.specs.Datagrams.{started, appended};
-ghost use Rattle.numbers.specs.Reports.{told, tell, handed};
+ghost use Rattle.numbers.specs.Reports.{handed};
 ghost use Rattle.numbers.specs.Addresses.{addressWith};
-ghost use Rattle.write_calls.specs.Writing.{writeReport, handOver};
-
-// A writer's answer as a number, and the length written into the array.
-pub fn report(answer: WriteAnswer, out: &mut [u64]) -> u32
-    ensures { λ r. ⌜ told r (now (out .exit)) ≡ tell (writeReport answer) (now (out .entry)) ⌝ }
-{
-    let WriteAnswer::Done(n) = answer else {
-        return answer_number(answer);
-    };
-    fill(out, &[n as u64]);
-    0
-}
+ghost use Rattle.write_reports.specs.WriteReports.{handOver};
 
 // Appends a sample, given as octets, to the datagram that the buffer's first length octets are, within a limit. Answers 0, and the array takes the
 // datagram's new length; or, tested in this order, 21 where the limit is outside 36 to 65,507 or above the buffer's length, 23 where the datagram so far is not

@@ -1,4 +1,4 @@
-use Rattle.write_calls.proofs.Writings.{handing}
+use Rattle.write_reports.proofs.WriteReports.{handing}
 use borrow.Author.Needs.{needs}
 use Rattle.form_calls.proofs.write.Statement.{statement}
 use Rattle.form_calls.proofs.write.Tie as tie

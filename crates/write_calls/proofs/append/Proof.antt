@@ -1,4 +1,4 @@
-use Rattle.write_calls.proofs.Writings.{handing}
+use Rattle.write_reports.proofs.WriteReports.{handing}
 use borrow.Author.Needs.{needs}
 use Rattle.write_calls.proofs.append.Statement.{statement}
 use Rattle.write_calls.proofs.append.Tie as tie

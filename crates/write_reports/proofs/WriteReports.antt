@@ -10,7 +10,7 @@ use Rattle.form_writer.specs.declared.parts.WriteAnswer.the-variants.{Done, Bad
 use Rattle.form_writer.specs.Parts.{answerNumber, Outcome, outcome}
 use Rattle.numbers.specs.Reports.{filled, told, tell, handed, withBuffer}
 use Rattle.numbers.proofs.Reports.{telling, filled-none}
-use Rattle.write_calls.specs.Writing.{writtenLength, writeReport, handOver}
+use Rattle.write_reports.specs.WriteReports.{writtenLength, writeReport, handOver}
 
 -- an answer that a match has no arm for is a refusal
 refusal : (x : WriteAnswer) → OneOf (1 ∷ 2 ∷ 3 ∷ 4 ∷ []) (tagOf the-type x) → [] ≡ writtenLength x

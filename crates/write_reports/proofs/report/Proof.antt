@@ -1,9 +1,9 @@
-use Rattle.write_calls.proofs.Writings.{refusal-told}
+use Rattle.write_reports.proofs.WriteReports.{refusal-told}
 use Rattle.numbers.specs.Reports.{told}
 use mathlib.Core.Path.{ap}
 use borrow.Author.Needs.{needs}
-use Rattle.write_calls.proofs.report.Statement.{statement}
-use Rattle.write_calls.proofs.report.Tie as tie
+use Rattle.write_reports.proofs.report.Statement.{statement}
+use Rattle.write_reports.proofs.report.Tie as tie
 
 enum-known-answer : tie.Need-enum-known-answer
 enum-known-answer c = search needs
