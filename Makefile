@@ -1,9 +1,10 @@
-.PHONY: help run test check bench library
+.PHONY: help run test check wrong bench library
 
 help:
 	@echo "make run      build the lister and list a sample capture"
 	@echo "make test     prove everything from nothing, try the must-fail edits, run the programs and the tests (the gate)"
 	@echo "make check    prove what changed since it was last proved"
+	@echo "make wrong    try more wrong programs than the gate does; the prover has to refuse each"
 	@echo "make library  the static library for C and Rust, target/staticlib/libexport.a"
 	@echo "make bench    measure the library against the second program (cargo), reader and lister against C (gcc); valgrind counts instructions"
 
@@ -23,6 +24,9 @@ test:
 
 check:
 	rt check
+
+wrong:
+	python3 wrong-programs/try
 
 library:
 	rt staticlib export
