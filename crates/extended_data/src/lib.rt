@@ -5,6 +5,7 @@ use fields::strings::Passed;
 use fields::strings::StringRead;
 use fields::strings::Text;
 use fields::words::Entries;
+use fields::words::FourRead;
 use sflow::Refusal;
 use xdr::WordRead;
 ghost use mathlib.Core.Path.{_≡_};
@@ -84,27 +85,18 @@ pub enum SegmentRead {
 fn read_switch(s: &[u8], at: usize) -> ExtendedRead
     ensures { λ r. ⌜ r ≡ asExtended (mapped switchOf (decode extended-switch (now (s .entry)) at)) ⌝ }
 {
-    let WordRead::Word(src_vlan, p1) = xdr::read_word(s, at) else {
-        return ExtendedRead::Refused(Refusal::CutItem, at);
-    };
-    let WordRead::Word(src_priority, p2) = xdr::read_word(s, p1) else {
-        return ExtendedRead::Refused(Refusal::CutItem, p1);
-    };
-    let WordRead::Word(dst_vlan, p3) = xdr::read_word(s, p2) else {
-        return ExtendedRead::Refused(Refusal::CutItem, p2);
-    };
-    let WordRead::Word(dst_priority, next) = xdr::read_word(s, p3) else {
-        return ExtendedRead::Refused(Refusal::CutItem, p3);
-    };
-    ExtendedRead::Found(
-        Extended::IsSwitch(Switch {
-            src_vlan,
-            src_priority,
-            dst_vlan,
-            dst_priority,
-        }),
-        next,
-    )
+    match fields::words::read_four(s, at) {
+        FourRead::CutFour(p) => ExtendedRead::Refused(Refusal::CutItem, p),
+        FourRead::Four(src_vlan, src_priority, dst_vlan, dst_priority, next) => ExtendedRead::Found(
+            Extended::IsSwitch(Switch {
+                src_vlan,
+                src_priority,
+                dst_vlan,
+                dst_priority,
+            }),
+            next,
+        ),
+    }
 }
 
 fn read_router(s: &[u8], at: usize) -> ExtendedRead

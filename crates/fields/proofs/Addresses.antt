@@ -27,7 +27,8 @@ below m d h = omega arith
 -- the four words of the number that four words are
 pub quad-words : (a b c d : ℕ) → a < 2 ^ 32 → b < 2 ^ 32 → c < 2 ^ 32 → d < 2 ^ 32 → quadOf (quadNumber a b c d) ≡ record { a = a; b = b; c = c; d = d }
 quad-words a b c d ha hb hc hd =
-    rw (above ((a * 2 ^ 32 + b) * 2 ^ 32 + c) d hd, above (a * 2 ^ 32 + b) c hc, above a b hb, below (a * 2 ^ 32 + b) c hc, below a b hb, below ((a * 2 ^ 32 + b) * 2 ^ 32 + c) d hd)
+    rw
+    (above ((a * 2 ^ 32 + b) * 2 ^ 32 + c) d hd, above (a * 2 ^ 32 + b) c hc, above a b hb, below (a * 2 ^ 32 + b) c hc, below a b hb, below ((a * 2 ^ 32 + b) * 2 ^ 32 + c) d hd)
 
 -- an IPv4 address, whole and cut short
 pub address-v4 : (s : List ℕ) (at k place a next : ℕ) → wordAt s at ≡ Word k place → k ≡ 1 → wordAt s place ≡ Word a next

@@ -1,3 +1,4 @@
 pub mod Parts
 pub mod Addresses
 pub mod Strings
+pub mod Words

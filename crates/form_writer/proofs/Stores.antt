@@ -47,7 +47,19 @@ pub parts-length : (head first middle list second tail : List ℕ)
     ≡ length (partsOctets head first middle list second tail)
 unfolding partsOctets
 parts-length head first middle list second tail =
-    rw (length-append, length-append, length-append, length-append, length-append, words-length head, words-length middle, words-length list, words-length tail, padded-length first, padded-length second)
+    rw (
+      length-append,
+      length-append,
+      length-append,
+      length-append,
+      length-append,
+      words-length head,
+      words-length middle,
+      words-length list,
+      words-length tail,
+      padded-length first,
+      padded-length second,
+    )
     (omega arith)
 
 -- the parts stored one behind the other

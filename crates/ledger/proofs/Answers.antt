@@ -32,7 +32,8 @@ row-kept row x = go (row .used) (sameSource row x) (eqb (step row x) 0) (leb (2 
   where
     go : (a b c e : Bool)
         → (cond a (cond b (cond c (answered Repeated row) (cond e (answered Backward row) (answered Entered (advanced row x)))) (answered OtherSource row)) (answered Entered (opened x)) .answer ≡ Entered)
-        ⊎ (cond a (cond b (cond c (answered Repeated row) (cond e (answered Backward row) (answered Entered (advanced row x)))) (answered OtherSource row)) (answered Entered (opened x)) .row ≡ row)
+        ⊎
+        (cond a (cond b (cond c (answered Repeated row) (cond e (answered Backward row) (answered Entered (advanced row x)))) (answered OtherSource row)) (answered Entered (opened x)) .row ≡ row)
     go false b c e = inl refl
     go true false c e = inr refl
     go true true true e = inr refl

@@ -187,7 +187,9 @@ module _ (s : Source) (row : Row) (x : FlowEntry) (xs : List FlowEntry) where
       → (r .«pool_total» + poolSum (r .«sample_pool») (accepted s (r .«sequence_number») xs)) % 2 ^ 64
       ≡ (row .«pool_total» + poolSum (row .«sample_pool») (cond b (x ∷ accepted s (x .words .«sequence_number») xs) (accepted s (row .«sequence_number») xs))) % 2 ^ 64
   pool-grows true r e =
-      rw e (sums (row .«pool_total») (difference (x .words .«sample_pool») (row .«sample_pool»)) (poolSum (x .words .«sample_pool») (accepted s (x .words .«sequence_number») xs)))
+      rw e
+      (sums (row .«pool_total») (difference (x .words .«sample_pool») (row .«sample_pool»))
+      (poolSum (x .words .«sample_pool») (accepted s (x .words .«sequence_number») xs)))
   pool-grows false r e = rw e
 
 -- over any run of samples on any table: the totals of a source's lowest row grow by the sums over its accepted later samples, modulo 2 ^ 64

@@ -82,11 +82,11 @@ fn flush(output: &[u8], n: usize) -> bool
     true
 }
 
-// Where listing stands: how many of the held octets are listed, what was counted, whether the next record is bad, and whether the output failed.
+// Where listing stands: how many of the held octets are listed, what was counted, why it stopped, and whether the output failed.
 struct Progress {
     listed: usize,
     state: State,
-    bad: bool,
+    stop: Stop,
     failed: bool,
 }
 
@@ -101,27 +101,21 @@ fn list_held(output: &mut [u8], s: &[u8], begin: State) -> Progress
         let p = listing::list_records(output, &s[listed..], state);
         listed += p.at;
         state = p.state;
+        let stop = p.stop;
         if !flush(output, p.out) {
             return Progress {
                 listed,
                 state,
-                bad: false,
+                stop,
                 failed: true,
             };
         }
-        let stop = p.stop;
         match stop {
             Stop::Output => {}
-            Stop::BadRecord => return Progress {
-                listed,
-                state,
-                bad: true,
-                failed: false,
-            },
             _ => return Progress {
                 listed,
                 state,
-                bad: false,
+                stop,
                 failed: false,
             },
         }
@@ -130,7 +124,7 @@ fn list_held(output: &mut [u8], s: &[u8], begin: State) -> Progress
     Progress {
         listed,
         state,
-        bad: false,
+        stop: Stop::NoRecord,
         failed: false,
     }
 }
@@ -179,9 +173,13 @@ fn list_input(input: &mut [u8], output: &mut [u8]) {
         if p.failed {
             return;
         }
-        if p.bad {
-            finish(output, state, true);
-            return;
+        let stop = p.stop;
+        match stop {
+            Stop::BadRecord => {
+                finish(output, state, true);
+                return;
+            }
+            _ => {}
         }
         shift(input, p.listed, end);
         held = end - p.listed;

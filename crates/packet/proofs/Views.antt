@@ -183,4 +183,5 @@ pub no-attribute : (a : Attributes) (n : ℕ) → (n ≡ 4 → ⊥) → (n ≡ 8
     → (n ≡ 19 → ⊥) → (n ≡ 21 → ⊥) → (n ≡ 22 → ⊥) → 0 ≡ attribute a n
 unfolding attribute
 no-attribute a n h4 h8 h9 h11 h12 h14 h18 h19 h21 h22 =
-    rw (ne-eqb n 4 h4, ne-eqb n 8 h8, ne-eqb n 9 h9, ne-eqb n 11 h11, ne-eqb n 12 h12, ne-eqb n 14 h14, ne-eqb n 18 h18, ne-eqb n 19 h19, ne-eqb n 21 h21, ne-eqb n 22 h22)
+    rw
+    (ne-eqb n 4 h4, ne-eqb n 8 h8, ne-eqb n 9 h9, ne-eqb n 11 h11, ne-eqb n 12 h12, ne-eqb n 14 h14, ne-eqb n 18 h18, ne-eqb n 19 h19, ne-eqb n 21 h21, ne-eqb n 22 h22)

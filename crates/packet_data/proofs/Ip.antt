@@ -31,7 +31,7 @@ ipv6-reads r = rw (reads-found r)
 
 -- an IPv6 packet whose items were all read
 pub ipv6-whole : (a b sa sb sc sd da db dc dd e f g h next : ℕ)
-    → sa < 2 ^ 32 → sb < 2 ^ 32 → sc < 2 ^ 32 → sd < 2 ^ 32 → da < 2 ^ 32 → db < 2 ^ 32 → dc < 2 ^ 32 → dd < 2 ^ 32
+    → (sa < 2 ^ 32) × (sb < 2 ^ 32) × (sc < 2 ^ 32) × (sd < 2 ^ 32) → (da < 2 ^ 32) × (db < 2 ^ 32) × (dc < 2 ^ 32) × (dd < 2 ^ 32)
     → mapped ipv6Of (found (a ∷ b ∷ quadNumber sa sb sc sd ∷ quadNumber da db dc dd ∷ e ∷ f ∷ g ∷ h ∷ []) next)
     ≡ found (Ipv6 (record {
       length = a;
@@ -43,8 +43,8 @@ pub ipv6-whole : (a b sa sb sc sd da db dc dd e f g h next : ℕ)
       «tcp_flags» = g;
       priority = h;
     })) next
-ipv6-whole a b sa sb sc sd da db dc dd e f g h next ha hb hc hd ia ib ic id =
-    packet (quad-words sa sb sc sd ha hb hc hd) (quad-words da db dc dd ia ib ic id)
+ipv6-whole a b sa sb sc sd da db dc dd e f g h next x y =
+    packet (quad-words sa sb sc sd (x .0) (x .1) (x .2) (x .3)) (quad-words da db dc dd (y .0) (y .1) (y .2) (y .3))
   where
     packet : {v w x y : Quad} → v ≡ w → x ≡ y
         → found (Ipv6 (record { length = a; protocol = b; «src_ip» = v; «dst_ip» = x; «src_port» = e; «dst_port» = f; «tcp_flags» = g; priority = h })) next

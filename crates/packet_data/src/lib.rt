@@ -2,6 +2,7 @@
 use fields::address::Quad;
 use fields::strings::Passed;
 use fields::strings::Text;
+use fields::words::FourRead;
 use sflow::Refusal;
 use xdr::QuadRead;
 use xdr::WordRead;
@@ -87,41 +88,26 @@ fn read_header(s: &[u8], at: usize) -> PacketRead
 fn read_ipv4(s: &[u8], at: usize) -> PacketRead
     ensures { λ r. ⌜ r ≡ asPacket (mapped ipv4Of (decode sampled-ipv4 (now (s .entry)) at)) ⌝ }
 {
-    let WordRead::Word(length, p1) = xdr::read_word(s, at) else {
-        return PacketRead::Refused(Refusal::CutItem, at);
-    };
-    let WordRead::Word(protocol, p2) = xdr::read_word(s, p1) else {
-        return PacketRead::Refused(Refusal::CutItem, p1);
-    };
-    let WordRead::Word(src_ip, p3) = xdr::read_word(s, p2) else {
-        return PacketRead::Refused(Refusal::CutItem, p2);
-    };
-    let WordRead::Word(dst_ip, p4) = xdr::read_word(s, p3) else {
-        return PacketRead::Refused(Refusal::CutItem, p3);
-    };
-    let WordRead::Word(src_port, p5) = xdr::read_word(s, p4) else {
-        return PacketRead::Refused(Refusal::CutItem, p4);
-    };
-    let WordRead::Word(dst_port, p6) = xdr::read_word(s, p5) else {
-        return PacketRead::Refused(Refusal::CutItem, p5);
-    };
-    let WordRead::Word(tcp_flags, p7) = xdr::read_word(s, p6) else {
-        return PacketRead::Refused(Refusal::CutItem, p6);
-    };
-    let WordRead::Word(tos, next) = xdr::read_word(s, p7) else {
-        return PacketRead::Refused(Refusal::CutItem, p7);
-    };
-    let data = SampledIpv4 {
-        length,
-        protocol,
-        src_ip,
-        dst_ip,
-        src_port,
-        dst_port,
-        tcp_flags,
-        tos,
-    };
-    PacketRead::Found(PacketData::Ipv4(data), next)
+    match fields::words::read_four(s, at) {
+        FourRead::CutFour(p) => PacketRead::Refused(Refusal::CutItem, p),
+        FourRead::Four(length, protocol, src_ip, dst_ip, ports_at) =>
+            match fields::words::read_four(s, ports_at) {
+                FourRead::CutFour(p) => PacketRead::Refused(Refusal::CutItem, p),
+                FourRead::Four(src_port, dst_port, tcp_flags, tos, next) => PacketRead::Found(
+                    PacketData::Ipv4(SampledIpv4 {
+                        length,
+                        protocol,
+                        src_ip,
+                        dst_ip,
+                        src_port,
+                        dst_port,
+                        tcp_flags,
+                        tos,
+                    }),
+                    next,
+                ),
+            },
+    }
 }
 
 fn quad(a: u32, b: u32, c: u32, d: u32) -> Quad
@@ -145,31 +131,22 @@ fn read_ipv6(s: &[u8], at: usize) -> PacketRead
     let QuadRead::Quad(da, db, dc, dd, p4) = xdr::read_quad(s, p3) else {
         return PacketRead::Refused(Refusal::CutItem, p3);
     };
-    let WordRead::Word(src_port, p5) = xdr::read_word(s, p4) else {
-        return PacketRead::Refused(Refusal::CutItem, p4);
-    };
-    let WordRead::Word(dst_port, p6) = xdr::read_word(s, p5) else {
-        return PacketRead::Refused(Refusal::CutItem, p5);
-    };
-    let WordRead::Word(tcp_flags, p7) = xdr::read_word(s, p6) else {
-        return PacketRead::Refused(Refusal::CutItem, p6);
-    };
-    let WordRead::Word(priority, next) = xdr::read_word(s, p7) else {
-        return PacketRead::Refused(Refusal::CutItem, p7);
-    };
-    let src_ip = quad(sa, sb, sc, sd);
-    let dst_ip = quad(da, db, dc, dd);
-    let data = SampledIpv6 {
-        length,
-        protocol,
-        src_ip,
-        dst_ip,
-        src_port,
-        dst_port,
-        tcp_flags,
-        priority,
-    };
-    PacketRead::Found(PacketData::Ipv6(data), next)
+    match fields::words::read_four(s, p4) {
+        FourRead::CutFour(p) => PacketRead::Refused(Refusal::CutItem, p),
+        FourRead::Four(src_port, dst_port, tcp_flags, priority, next) => PacketRead::Found(
+            PacketData::Ipv6(SampledIpv6 {
+                length,
+                protocol,
+                src_ip: quad(sa, sb, sc, sd),
+                dst_ip: quad(da, db, dc, dd),
+                src_port,
+                dst_port,
+                tcp_flags,
+                priority,
+            }),
+            next,
+        ),
+    }
 }
 
 // Packet data at their type word.

@@ -5,6 +5,7 @@ use extended_data::ExtendedRead;
 use extended_data::Gateway;
 use extended_data::Router;
 use extended_data::SegmentRead;
+use extended_data::Switch;
 use numbers::fill;
 use numbers::refuse;
 use reader::datagram::HeadRead;
@@ -13,7 +14,7 @@ ghost use mathlib.Core.List.{_∷_};
 ghost use Rattle.sflow.specs.Decode.{decode, mapped};
 ghost use Rattle.sflow.specs.Datagram.{as-path-type, extended-data-type};
 ghost use Rattle.sflow.specs.Reading.{readDatagram};
-ghost use Rattle.extended_data.specs.declared.Extended.the-variants.{IsRouter, IsGateway};
+ghost use Rattle.extended_data.specs.declared.Extended.the-variants.{IsSwitch, IsRouter, IsGateway};
 ghost use Rattle.extended_data.specs.ExtendedData.{segmentOf, asSegment, extendedOf, asExtended};
 ghost use Rattle.reader.specs.Datagrams.{datagramOf, asHead};
 ghost use Rattle.numbers.specs.Reports.{filled, told, tell};
@@ -46,6 +47,23 @@ pub fn read(octets: &[u8], out: &mut [u64]) -> u32
             0
         }
     }
+}
+
+// Puts a switch entry's numbers to the front of an array.
+fn fill_switch(x: Switch, next: usize, out: &mut [u64])
+    ensures { λ _. ⌜ now (out .exit) ≡ filled (1 ∷ next ∷ extendedNumbers (IsSwitch x)) (now (out .entry)) ⌝ }
+{
+    fill(
+        out,
+        &[
+            1,
+            next as u64,
+            x.src_vlan as u64,
+            x.src_priority as u64,
+            x.dst_vlan as u64,
+            x.dst_priority as u64,
+        ],
+    );
 }
 
 // Puts a router entry's numbers to the front of an array.
@@ -94,17 +112,7 @@ fn fill_extended(x: Extended, next: usize, out: &mut [u64])
     ensures { λ _. ⌜ now (out .exit) ≡ filled (extendedType x ∷ next ∷ extendedNumbers x) (now (out .entry)) ⌝ }
 {
     match x {
-        Extended::IsSwitch(v) => fill(
-            out,
-            &[
-                1,
-                next as u64,
-                v.src_vlan as u64,
-                v.src_priority as u64,
-                v.dst_vlan as u64,
-                v.dst_priority as u64,
-            ],
-        ),
+        Extended::IsSwitch(v) => fill_switch(v, next, out),
         Extended::IsRouter(v) => fill_router(v, next, out),
         Extended::IsGateway(v) => fill_gateway(v, next, out),
         Extended::IsUser(v) => fill(

@@ -3,6 +3,7 @@ use counter_data::CounterBody;
 use counter_data::CounterBodyRead;
 use fields::strings::Passed;
 use fields::words::Entries;
+use fields::words::FourRead;
 use packet_data::PacketData;
 use packet_data::PacketRead;
 use sflow::Refusal;
@@ -74,39 +75,32 @@ pub enum SampleRead {
 fn read_flow_words(s: &[u8], at: usize) -> FlowWordsRead
     ensures { λ r. ⌜ r ≡ asFlowWords (mapped flowWordsOf (decode (fixed flow-words) (now (s .entry)) at)) ⌝ }
 {
-    let WordRead::Word(sequence_number, p1) = xdr::read_word(s, at) else {
-        return FlowWordsRead::Refused(Refusal::CutItem, at);
-    };
-    let WordRead::Word(source_id, p2) = xdr::read_word(s, p1) else {
-        return FlowWordsRead::Refused(Refusal::CutItem, p1);
-    };
-    let WordRead::Word(sampling_rate, p3) = xdr::read_word(s, p2) else {
-        return FlowWordsRead::Refused(Refusal::CutItem, p2);
-    };
-    let WordRead::Word(sample_pool, p4) = xdr::read_word(s, p3) else {
-        return FlowWordsRead::Refused(Refusal::CutItem, p3);
-    };
-    let WordRead::Word(drops, p5) = xdr::read_word(s, p4) else {
-        return FlowWordsRead::Refused(Refusal::CutItem, p4);
-    };
-    let WordRead::Word(input, p6) = xdr::read_word(s, p5) else {
-        return FlowWordsRead::Refused(Refusal::CutItem, p5);
-    };
-    let WordRead::Word(output, next) = xdr::read_word(s, p6) else {
-        return FlowWordsRead::Refused(Refusal::CutItem, p6);
-    };
-    FlowWordsRead::Found(
-        FlowWords {
-            sequence_number,
-            source_id,
-            sampling_rate,
-            sample_pool,
-            drops,
-            input,
-            output,
-        },
-        next,
-    )
+    match fields::words::read_four(s, at) {
+        FourRead::CutFour(p) => FlowWordsRead::Refused(Refusal::CutItem, p),
+        FourRead::Four(sequence_number, source_id, sampling_rate, sample_pool, p4) => {
+            let WordRead::Word(drops, p5) = xdr::read_word(s, p4) else {
+                return FlowWordsRead::Refused(Refusal::CutItem, p4);
+            };
+            let WordRead::Word(input, p6) = xdr::read_word(s, p5) else {
+                return FlowWordsRead::Refused(Refusal::CutItem, p5);
+            };
+            let WordRead::Word(output, next) = xdr::read_word(s, p6) else {
+                return FlowWordsRead::Refused(Refusal::CutItem, p6);
+            };
+            FlowWordsRead::Found(
+                FlowWords {
+                    sequence_number,
+                    source_id,
+                    sampling_rate,
+                    sample_pool,
+                    drops,
+                    input,
+                    output,
+                },
+                next,
+            )
+        }
+    }
 }
 
 // What follows a flow sample's packet data, which end at an offset: the list of extended data.

@@ -262,7 +262,8 @@ module _ (n : ℕ) (rule : ℕ → Rule) (declared : ℕ → Declared) where
     unfolding act
     back-within i g cs is v e =
         let o = ok i (v .low) (v .high) in
-        act-good Return i (g ∷ cs) is 0 v e (rw e at (o .homed)) (rw e at (o .ahead)) (rw e at (o .escaped)) (rw e at (o .queue)) (rw e at (o .target)) (rw e at (o .back)) .0 .high
+        act-good Return i (g ∷ cs) is 0 v e (rw e at (o .homed)) (rw e at (o .ahead)) (rw e at (o .escaped)) (rw e at (o .queue)) (rw e at (o .target))
+        (rw e at (o .back)) .0 .high
 
     module _ (some-rule : 1 ≤ n) where
       pub reached : (k : ℕ) → Reached k (after n rule at k)

@@ -38,7 +38,8 @@ module _ (s : List ℕ) (p : ℕ) where
       let d : p + 8 + 1 ≡ p + 9 = omega arith in
       let f : p + 8 + 2 ≡ p + 10 = omega arith in
       let g : p + 8 + 3 ≡ p + 11 = omega arith in
-      rw (fields-are s p, octet-number s (p + 2), octet-number s (p + 3), octet-number s (p + 12), word-number s (p + 4), word-number s (p + 8), a, b, c, d, f, g, m, v, e)
+      rw
+      (fields-are s p, octet-number s (p + 2), octet-number s (p + 3), octet-number s (p + 12), word-number s (p + 4), word-number s (p + 8), a, b, c, d, f, g, m, v, e)
 
   pub declared-read : (home : ℕ) → home ≡ getD s (p + 13) 0
       → record { home = home; depth = getD s (p + 14) 0; held = getD s (p + 15) 0 } ≡ declaredIn (numbersAt s p recordWidths)

@@ -14,7 +14,8 @@ is-over-limits-requires c κs = search needs
 returns : tie.Need-returns
 returns c =
     let entry = c .before .before .before in
-    alone-is (entry .args .n) (entry .args .i) (entry .args .rule) (entry .args .declared) _ true _ _ _ (c .before .before .action-of .ensures) (sym (c .if1 .taken) ∙ c .before .is-over-limits .ensures) refl refl refl
+    alone-is (entry .args .n) (entry .args .i) (entry .args .rule) (entry .args .declared) _ true _ _ _ (c .before .before .action-of .ensures)
+    (sym (c .if1 .taken) ∙ c .before .is-over-limits .ensures) refl refl refl
 
 is-bad-first-requires : tie.Need-is-bad-first-requires
 is-bad-first-requires c κs = search needs
@@ -24,7 +25,8 @@ returns-2 c =
     let at-is-over-limits = c .before .before .before in
     let at-action-of = at-is-over-limits .before in
     let entry = at-action-of .before in
-    alone-is (entry .args .n) (entry .args .i) (entry .args .rule) (entry .args .declared) _ false true _ _ (at-action-of .action-of .ensures) (sym (c .before .before .if1 .left) ∙ at-is-over-limits .is-over-limits .ensures) (sym (c .if2 .taken) ∙ c .before .is-bad-first .ensures) refl refl
+    alone-is (entry .args .n) (entry .args .i) (entry .args .rule) (entry .args .declared) _ false true _ _ (at-action-of .action-of .ensures)
+    (sym (c .before .before .if1 .left) ∙ at-is-over-limits .is-over-limits .ensures) (sym (c .if2 .taken) ∙ c .before .is-bad-first .ensures) refl refl
 
 is-return-in-main-requires : tie.Need-is-return-in-main-requires
 is-return-in-main-requires c κs = search needs
@@ -36,7 +38,9 @@ returns-3 c =
     let at-is-over-limits = at-if1 .before in
     let at-action-of = at-is-over-limits .before in
     let entry = at-action-of .before in
-    alone-is (entry .args .n) (entry .args .i) (entry .args .rule) (entry .args .declared) _ false false true _ (at-action-of .action-of .ensures) (sym (at-if1 .if1 .left) ∙ at-is-over-limits .is-over-limits .ensures) (sym (c .before .before .if2 .left) ∙ at-is-bad-first .is-bad-first .ensures) (sym (c .if3 .taken) ∙ c .before .is-return-in-main .ensures) refl
+    alone-is (entry .args .n) (entry .args .i) (entry .args .rule) (entry .args .declared) _ false false true _ (at-action-of .action-of .ensures)
+    (sym (at-if1 .if1 .left) ∙ at-is-over-limits .is-over-limits .ensures) (sym (c .before .before .if2 .left) ∙ at-is-bad-first .is-bad-first .ensures)
+    (sym (c .if3 .taken) ∙ c .before .is-return-in-main .ensures) refl
 
 is-bad-target-requires : tie.Need-is-bad-target-requires
 is-bad-target-requires c κs = search needs
@@ -50,7 +54,9 @@ returns-4 c =
     let at-is-over-limits = at-if1 .before in
     let at-action-of = at-is-over-limits .before in
     let entry = at-action-of .before in
-    alone-is (entry .args .n) (entry .args .i) (entry .args .rule) (entry .args .declared) _ false false false true (at-action-of .action-of .ensures) (sym (at-if1 .if1 .left) ∙ at-is-over-limits .is-over-limits .ensures) (sym (at-if2 .if2 .left) ∙ at-is-bad-first .is-bad-first .ensures) (sym (c .before .before .if3 .left) ∙ at-is-return-in-main .is-return-in-main .ensures) (sym (c .if4 .taken) ∙ c .before .is-bad-target .ensures)
+    alone-is (entry .args .n) (entry .args .i) (entry .args .rule) (entry .args .declared) _ false false false true (at-action-of .action-of .ensures)
+    (sym (at-if1 .if1 .left) ∙ at-is-over-limits .is-over-limits .ensures) (sym (at-if2 .if2 .left) ∙ at-is-bad-first .is-bad-first .ensures)
+    (sym (c .before .before .if3 .left) ∙ at-is-return-in-main .is-return-in-main .ensures) (sym (c .if4 .taken) ∙ c .before .is-bad-target .ensures)
 
 returns-5 : tie.Need-returns-5
 returns-5 c =
@@ -61,7 +67,9 @@ returns-5 c =
     let at-is-over-limits = at-if1 .before in
     let at-action-of = at-is-over-limits .before in
     let entry = at-action-of .before in
-    alone-is (entry .args .n) (entry .args .i) (entry .args .rule) (entry .args .declared) _ false false false false (at-action-of .action-of .ensures) (sym (at-if1 .if1 .left) ∙ at-is-over-limits .is-over-limits .ensures) (sym (at-if2 .if2 .left) ∙ at-is-bad-first .is-bad-first .ensures) (sym (c .before .before .if3 .left) ∙ at-is-return-in-main .is-return-in-main .ensures) (sym (c .if4 .left) ∙ c .before .is-bad-target .ensures)
+    alone-is (entry .args .n) (entry .args .i) (entry .args .rule) (entry .args .declared) _ false false false false (at-action-of .action-of .ensures)
+    (sym (at-if1 .if1 .left) ∙ at-is-over-limits .is-over-limits .ensures) (sym (at-if2 .if2 .left) ∙ at-is-bad-first .is-bad-first .ensures)
+    (sym (c .before .before .if3 .left) ∙ at-is-return-in-main .is-return-in-main .ensures) (sym (c .if4 .left) ∙ c .before .is-bad-target .ensures)
 
 pub check-alone-spec : {M : Type 1} → statement M
 check-alone-spec =

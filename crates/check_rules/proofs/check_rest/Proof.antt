@@ -22,7 +22,11 @@ returns : tie.Need-returns
 returns c =
     let at-record-at = c .before .before .before .before .before in
     let entry = at-record-at .before .before in
-    let a = entry .args in rest-is (recordOf (now (a .s))) (a .n) (a .i) (at-record-at .record-at .result) true _ _ (at-record-at .record-at .ensures) (sym (c .if1 .taken) ∙ c .before .is-bad-queue .ensures ∙ ap (λ (x : Action). badQueue x (at-record-at .record-at .result .declared .held)) (c .before .before .action-of .ensures)) refl refl (entry .pre)
+    let a = entry .args in
+    rest-is (recordOf (now (a .s))) (a .n) (a .i) (at-record-at .record-at .result) true _ _ (at-record-at .record-at .ensures)
+    (sym (c .if1 .taken)
+    ∙ c .before .is-bad-queue .ensures
+    ∙ ap (λ (x : Action). badQueue x (at-record-at .record-at .result .declared .held)) (c .before .before .action-of .ensures)) refl refl (entry .pre)
 
 next-differs-requires : tie.Need-next-differs-requires
 next-differs-requires c κs = search needs
@@ -33,7 +37,12 @@ returns-2 c =
     let at-action-of = at-is-bad-queue .before in
     let at-record-at = at-action-of .before .before .before in
     let entry = at-record-at .before .before in
-    let a = entry .args in rest-is (recordOf (now (a .s))) (a .n) (a .i) (at-record-at .record-at .result) false true _ (at-record-at .record-at .ensures) (sym (c .before .before .if1 .left) ∙ at-is-bad-queue .is-bad-queue .ensures ∙ ap (λ (x : Action). badQueue x (at-record-at .record-at .result .declared .held)) (at-action-of .action-of .ensures)) (sym (c .if2 .taken) ∙ c .before .next-differs .ensures) refl (entry .pre)
+    let a = entry .args in
+    rest-is (recordOf (now (a .s))) (a .n) (a .i) (at-record-at .record-at .result) false true _ (at-record-at .record-at .ensures)
+    (sym (c .before .before .if1 .left)
+    ∙ at-is-bad-queue .is-bad-queue .ensures
+    ∙ ap (λ (x : Action). badQueue x (at-record-at .record-at .result .declared .held)) (at-action-of .action-of .ensures))
+    (sym (c .if2 .taken) ∙ c .before .next-differs .ensures) refl (entry .pre)
 
 target-differs-requires : tie.Need-target-differs-requires
 target-differs-requires c κs =
@@ -41,7 +50,8 @@ target-differs-requires c κs =
     let at-action-of = at-is-bad-queue .before in
     let at-record-at = at-action-of .before .before .before in
     let entry = at-record-at .before .before in
-    queue-fine (recordOf (now (entry .args .s))) (entry .args .i) (at-record-at .record-at .result) _ (at-record-at .record-at .ensures) (at-action-of .action-of .ensures) (sym (at-is-bad-queue .is-bad-queue .ensures) ∙ c .before .before .if1 .left)
+    queue-fine (recordOf (now (entry .args .s))) (entry .args .i) (at-record-at .record-at .result) _ (at-record-at .record-at .ensures)
+    (at-action-of .action-of .ensures) (sym (at-is-bad-queue .is-bad-queue .ensures) ∙ c .before .before .if1 .left)
 
 returns-3 : tie.Need-returns-3
 returns-3 c =
@@ -51,7 +61,12 @@ returns-3 c =
     let at-action-of = at-is-bad-queue .before in
     let at-record-at = at-action-of .before .before .before in
     let entry = at-record-at .before .before in
-    let a = entry .args in rest-is (recordOf (now (a .s))) (a .n) (a .i) (at-record-at .record-at .result) false false true (at-record-at .record-at .ensures) (sym (at-if1 .if1 .left) ∙ at-is-bad-queue .is-bad-queue .ensures ∙ ap (λ (x : Action). badQueue x (at-record-at .record-at .result .declared .held)) (at-action-of .action-of .ensures)) (sym (c .before .before .if2 .left) ∙ at-next-differs .next-differs .ensures) (sym (c .if3 .taken) ∙ c .before .target-differs .ensures) (entry .pre)
+    let a = entry .args in
+    rest-is (recordOf (now (a .s))) (a .n) (a .i) (at-record-at .record-at .result) false false true (at-record-at .record-at .ensures)
+    (sym (at-if1 .if1 .left)
+    ∙ at-is-bad-queue .is-bad-queue .ensures
+    ∙ ap (λ (x : Action). badQueue x (at-record-at .record-at .result .declared .held)) (at-action-of .action-of .ensures))
+    (sym (c .before .before .if2 .left) ∙ at-next-differs .next-differs .ensures) (sym (c .if3 .taken) ∙ c .before .target-differs .ensures) (entry .pre)
 
 returns-4 : tie.Need-returns-4
 returns-4 c =
@@ -61,7 +76,12 @@ returns-4 c =
     let at-action-of = at-is-bad-queue .before in
     let at-record-at = at-action-of .before .before .before in
     let entry = at-record-at .before .before in
-    let a = entry .args in rest-is (recordOf (now (a .s))) (a .n) (a .i) (at-record-at .record-at .result) false false false (at-record-at .record-at .ensures) (sym (at-if1 .if1 .left) ∙ at-is-bad-queue .is-bad-queue .ensures ∙ ap (λ (x : Action). badQueue x (at-record-at .record-at .result .declared .held)) (at-action-of .action-of .ensures)) (sym (c .before .before .if2 .left) ∙ at-next-differs .next-differs .ensures) (sym (c .if3 .left) ∙ c .before .target-differs .ensures) (entry .pre)
+    let a = entry .args in
+    rest-is (recordOf (now (a .s))) (a .n) (a .i) (at-record-at .record-at .result) false false false (at-record-at .record-at .ensures)
+    (sym (at-if1 .if1 .left)
+    ∙ at-is-bad-queue .is-bad-queue .ensures
+    ∙ ap (λ (x : Action). badQueue x (at-record-at .record-at .result .declared .held)) (at-action-of .action-of .ensures))
+    (sym (c .before .before .if2 .left) ∙ at-next-differs .next-differs .ensures) (sym (c .if3 .left) ∙ c .before .target-differs .ensures) (entry .pre)
 
 pub check-rest-spec : {M : Type 1} → statement M
 check-rest-spec =

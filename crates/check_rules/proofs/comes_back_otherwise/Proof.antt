@@ -14,7 +14,9 @@ is-aimed-requires c κs = search needs
 add-record-at : tie.Need-add-record-at
 add-record-at c =
     let entry = c .before .before .before .before .before .before in
-    let a = entry .args in let h : a .g + a .back .rule .parameter ≤ count (now (a .s)) = comes-back (count (now (a .s))) (a .g + a .back .rule .parameter) _ (entry .pre) (sym (c .before .before .is-aimed .ensures) ∙ c .before .if1 .taken) in omega arith
+    let a = entry .args in
+    let h : a .g + a .back .rule .parameter ≤ count (now (a .s)) = comes-back (count (now (a .s))) (a .g + a .back .rule .parameter) _ (entry .pre) (sym (c .before .before .is-aimed .ensures) ∙ c .before .if1 .taken) in
+    omega arith
 
 record-at-requires : tie.Need-record-at-requires
 record-at-requires c κs = search needs
@@ -38,7 +40,11 @@ returns c =
     let at-if1 = at-record-at .before .before in
     let at-is-aimed = at-if1 .before in
     let entry = at-is-aimed .before .before .before .before in
-    let a = entry .args in c .declares-otherwise .ensures ∙ otherwise-is (recordOf (now (a .s))) (a .g + a .back .rule .parameter) (a .g) (a .back .declared .held) _ (at-record-at .record-at .result) (at-record-at2 .record-at2 .result) (sym (at-is-aimed .is-aimed .ensures) ∙ at-if1 .if1 .taken) (at-record-at .record-at .ensures) (at-record-at2 .record-at2 .ensures)
+    let a = entry .args in
+    c .declares-otherwise .ensures
+    ∙ otherwise-is (recordOf (now (a .s))) (a .g + a .back .rule .parameter) (a .g) (a .back .declared .held) _ (at-record-at .record-at .result)
+    (at-record-at2 .record-at2 .result) (sym (at-is-aimed .is-aimed .ensures) ∙ at-if1 .if1 .taken) (at-record-at .record-at .ensures)
+    (at-record-at2 .record-at2 .ensures)
 
 returns-2 : tie.Need-returns-2
 returns-2 c = aimed-elsewhere _ _ (sym (c .before .is-aimed .ensures) ∙ c .if1 .left)

@@ -1,7 +1,8 @@
-use Prim.Native.Nat.{_+_, _-_, _≤_}
+use Prim.Native.Nat.{ℕ, _+_, _-_, _≤_}
 use native.Mathlib.Omega.{arith}
 use mathlib.Core.Path.{_≡_, refl, sym, _∙_, ap}
 use mathlib.Core.Logic.{⊎-elim}
+use mathlib.Core.List.{List}
 use mathlib.Core.Bool.{false}
 use denote.Ref.{now}
 use borrow.Author.Needs.{needs}
@@ -81,8 +82,11 @@ loop-again : tie.Need-loop-again Inv-loop μ-loop Inv-loop2 μ-loop2 Inv-rules �
 loop-again c =
     let at-loop = c .before .before .before in
     let at-record-at = at-loop .before .before .before .before .before .before .before .before in
-    let entry = at-record-at .before .before .before .before in
-    (omega arith, some-more (comesBackNowhere (now (entry .args .s)) (count (now (entry .args .s))) (at-record-at .record-at .result)) (at-loop .loop .g) (at-loop .loop .inv .1) (sym (c .before .comes-back-nowhere .ensures) ∙ c .if2 .left))
+    let entry = at-record-at .before .before .before .before in (
+      omega arith,
+      some-more (comesBackNowhere (now (entry .args .s)) (count (now (entry .args .s))) (at-record-at .record-at .result)) (at-loop .loop .g)
+          (at-loop .loop .inv .1) (sym (c .before .comes-back-nowhere .ensures) ∙ c .if2 .left),
+    )
 
 loop2-holds : tie.Need-loop2-holds Inv-loop μ-loop Inv-loop2 μ-loop2 Inv-rules μ-rules
 loop2-holds c = (omega arith, refl)
@@ -108,13 +112,19 @@ loop2-again : tie.Need-loop2-again Inv-loop μ-loop Inv-loop2 μ-loop2 Inv-rules
 loop2-again c =
     let at-loop2 = c .before .before .before in
     let at-record-at = at-loop2 .before .before .before .before .before .before .before .before .before .before in
-    let entry = at-record-at .before .before .before .before in
-    (omega arith, some-more (comesBackOtherwise (now (entry .args .s)) (at-record-at .record-at .result)) (at-loop2 .loop2 .h) (at-loop2 .loop2 .inv .1) (sym (c .before .comes-back-otherwise .ensures) ∙ c .if3 .left))
+    let entry = at-record-at .before .before .before .before in (
+      omega arith,
+      some-more (comesBackOtherwise (now (entry .args .s)) (at-record-at .record-at .result)) (at-loop2 .loop2 .h) (at-loop2 .loop2 .inv .1)
+          (sym (c .before .comes-back-otherwise .ensures) ∙ c .if3 .left),
+    )
 
 -- behind the inner loops: each Gosub of a Return comes back at a rule, and at one that declares the same
+abbrev Kept : List ℕ → ℕ → Type 0
+Kept s i = (escapes (count s) (ruleOf s) (declaredOf s) i ≡ false) × (returnDiffers (count s) (ruleOf s) (declaredOf s) i ≡ false)
+
 kept : (c : tie.Joined1 Inv-loop μ-loop Inv-loop2 μ-loop2 Inv-rules μ-rules)
-    → (escapes (count (now (c .before .before .before .before .before .before .before .before .before .before .before .args .s))) (ruleOf (now (c .before .before .before .before .before .before .before .before .before .before .before .args .s))) (declaredOf (now (c .before .before .before .before .before .before .before .before .before .before .before .args .s))) (c .before .before .before .before .before .before .before .before .before .rules .i + 1) ≡ false)
-    × (returnDiffers (count (now (c .before .before .before .before .before .before .before .before .before .before .before .args .s))) (ruleOf (now (c .before .before .before .before .before .before .before .before .before .before .before .args .s))) (declaredOf (now (c .before .before .before .before .before .before .before .before .before .before .before .args .s))) (c .before .before .before .before .before .before .before .before .before .rules .i + 1) ≡ false)
+    → Kept (now (c .before .before .before .before .before .before .before .before .before .before .before .args .s))
+    (c .before .before .before .before .before .before .before .before .before .rules .i + 1)
 kept c =
     let at-record-at = c .before .before .before .before .before .before .before in
     let at-rules = at-record-at .before .before in
@@ -149,8 +159,15 @@ rules-again c =
     let at-rules = at-record-at .before .before in
     let entry = at-rules .before .before in
     let s = now (entry .args .s) in
-    let i = at-rules .rules .i in
-    (omega arith, c .enum-told3 .given .1, one-more (ruleCheck s) i (at-rules .rules .inv .2) (goes-on s (i + 1) (at-record-at .record-at .result) (at-record-at .record-at .ensures) (sym (at-check-record .check-record .ensures) ∙ at-enum-told .enum-told .given .1) (kept (at-3) .0) ∙ sym (c .before .before .check-rest .ensures) ∙ c .enum-told3 .given .1))
+    let i = at-rules .rules .i in (
+      omega arith,
+      c .enum-told3 .given .1,
+      one-more (ruleCheck s) i (at-rules .rules .inv .2)
+          (goes-on s (i + 1) (at-record-at .record-at .result) (at-record-at .record-at .ensures)
+          (sym (at-check-record .check-record .ensures) ∙ at-enum-told .enum-told .given .1) (kept (at-3) .0)
+          ∙ sym (c .before .before .check-rest .ensures)
+          ∙ c .enum-told3 .given .1),
+    )
 
 enum-told-4 : tie.Need-enum-told-4 Inv-loop μ-loop Inv-loop2 μ-loop2 Inv-rules μ-rules
 enum-told-4 c = c .match2 .keys2

@@ -22,13 +22,17 @@ returns c =
     let at-action-of = c .before .before .before in
     let at-record-at = at-action-of .before .before in
     let entry = at-record-at .before .before in
-    let s = now (entry .args .s) in aims-is (recordOf s) (count s) (entry .args .home) (entry .args .g) (at-record-at .record-at .result) true (at-record-at .record-at .ensures) (sym (c .before .if1 .taken) ∙ c .before .before .is-gosub .ensures ∙ ap isGosub (at-action-of .action-of .ensures))
+    let s = now (entry .args .s) in
+    aims-is (recordOf s) (count s) (entry .args .home) (entry .args .g) (at-record-at .record-at .result) true (at-record-at .record-at .ensures)
+    (sym (c .before .if1 .taken) ∙ c .before .before .is-gosub .ensures ∙ ap isGosub (at-action-of .action-of .ensures))
 
 returns-2 : tie.Need-returns-2
 returns-2 c =
     let at-record-at = c .before .before .before .before in
     let entry = at-record-at .before .before in
-    let s = now (entry .args .s) in aims-is (recordOf s) (count s) (entry .args .home) (entry .args .g) (at-record-at .record-at .result) false (at-record-at .record-at .ensures) (sym (c .if1 .left) ∙ c .before .is-gosub .ensures ∙ ap isGosub (c .before .before .action-of .ensures))
+    let s = now (entry .args .s) in
+    aims-is (recordOf s) (count s) (entry .args .home) (entry .args .g) (at-record-at .record-at .result) false (at-record-at .record-at .ensures)
+    (sym (c .if1 .left) ∙ c .before .is-gosub .ensures ∙ ap isGosub (c .before .before .action-of .ensures))
 
 pub is-aimed-spec : {M : Type 1} → statement M
 is-aimed-spec =

@@ -20,7 +20,9 @@ array-read-if1 : tie.Need-array-read-if1 Inv-loop μ-loop
 array-read-if1 c = omega arith
 
 returns : tie.Need-returns Inv-loop μ-loop
-returns c = sym (member-here (c .before .before .before .args .attribute) (c .before .before .loop .i) attributes (c .before .loop-test .taken) (c .if1 .taken)) ∙ c .before .before .loop .inv .1
+returns c =
+    sym (member-here (c .before .before .before .args .attribute) (c .before .before .loop .i) attributes (c .before .loop-test .taken) (c .if1 .taken))
+    ∙ c .before .before .loop .inv .1
 
 add-i : tie.Need-add-i Inv-loop μ-loop
 add-i c = omega arith
@@ -29,7 +31,11 @@ loop-less : tie.Need-loop-less Inv-loop μ-loop
 loop-less c = omega arith
 
 loop-again : tie.Need-loop-again Inv-loop μ-loop
-loop-again c = (omega arith, sym (member-later (c .before .before .before .args .attribute) (c .before .before .loop .i) attributes (c .before .loop-test .taken) (c .if1 .left)) ∙ c .before .before .loop .inv .1)
+loop-again c = (
+  omega arith,
+  sym (member-later (c .before .before .before .args .attribute) (c .before .before .loop .i) attributes (c .before .loop-test .taken) (c .if1 .left))
+      ∙ c .before .before .loop .inv .1,
+)
 
 returns-2 : tie.Need-returns-2 Inv-loop μ-loop
 returns-2 c = sym (member-none (c .before .before .args .attribute) (c .before .loop .i) attributes (c .loop-test .left)) ∙ c .before .loop .inv .1

@@ -21,7 +21,9 @@ returns-2 c =
     let at-record-at = c .before .before .before in
     let at-if1 = at-record-at .before in
     let entry = at-if1 .before .before in
-    let a = entry .args in next-is (recordOf (now (a .s))) (a .n) (a .i) (at-record-at .record-at .result) _ true (at-if1 .if1 .left) (at-record-at .record-at .ensures) (sym (c .if2 .taken) ∙ c .before .are-both-zero .ensures) refl
+    let a = entry .args in
+    next-is (recordOf (now (a .s))) (a .n) (a .i) (at-record-at .record-at .result) _ true (at-if1 .if1 .left) (at-record-at .record-at .ensures)
+    (sym (c .if2 .taken) ∙ c .before .are-both-zero .ensures) refl
 
 add-record-at : tie.Need-add-record-at
 add-record-at c = search needs
@@ -46,7 +48,10 @@ returns-3 c =
     let at-record-at = at-are-both-zero .before .before in
     let at-if1 = at-record-at .before in
     let entry = at-if1 .before .before in
-    let a = entry .args in c .declares-otherwise .ensures ∙ next-is (recordOf (now (a .s))) (a .n) (a .i) (at-record-at .record-at .result) (at-record-at2 .record-at2 .result) false (at-if1 .if1 .left) (at-record-at .record-at .ensures) (sym (at-if2 .if2 .left) ∙ at-are-both-zero .are-both-zero .ensures) (at-record-at2 .record-at2 .ensures)
+    let a = entry .args in
+    c .declares-otherwise .ensures
+    ∙ next-is (recordOf (now (a .s))) (a .n) (a .i) (at-record-at .record-at .result) (at-record-at2 .record-at2 .result) false (at-if1 .if1 .left)
+    (at-record-at .record-at .ensures) (sym (at-if2 .if2 .left) ∙ at-are-both-zero .are-both-zero .ensures) (at-record-at2 .record-at2 .ensures)
 
 pub next-differs-spec : {M : Type 1} → statement M
 next-differs-spec =

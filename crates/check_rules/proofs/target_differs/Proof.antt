@@ -46,7 +46,12 @@ returns c =
     let at-action-of = at-has-goto-flag .before in
     let at-record-at = at-action-of .before .before .before in
     let entry = at-record-at .before .before in
-    let a = entry .args in c .declares-otherwise .ensures ∙ gosub-target (recordOf (now (a .s))) (count (now (a .s))) (a .i) (at-record-at .record-at .result) (at-record-at2 .record-at2 .result) (at-record-at .record-at .ensures) (at-record-at2 .record-at2 .ensures) (ap gotoFlag (sym (at-action-of .action-of .ensures)) ∙ sym (at-has-goto-flag .has-goto-flag .ensures) ∙ at-if1 .if1 .taken) (ap isGosub (sym (at-action-of .action-of .ensures)) ∙ sym (at-is-gosub .is-gosub .ensures) ∙ at-if2 .if2 .taken)
+    let a = entry .args in
+    c .declares-otherwise .ensures
+    ∙ gosub-target (recordOf (now (a .s))) (count (now (a .s))) (a .i) (at-record-at .record-at .result) (at-record-at2 .record-at2 .result)
+    (at-record-at .record-at .ensures) (at-record-at2 .record-at2 .ensures)
+    (ap gotoFlag (sym (at-action-of .action-of .ensures)) ∙ sym (at-has-goto-flag .has-goto-flag .ensures) ∙ at-if1 .if1 .taken)
+    (ap isGosub (sym (at-action-of .action-of .ensures)) ∙ sym (at-is-gosub .is-gosub .ensures) ∙ at-if2 .if2 .taken)
 
 cast-declares-otherwise-3 : tie.Need-cast-declares-otherwise-3
 cast-declares-otherwise-3 c = search needs
@@ -56,7 +61,8 @@ held-after-requires c κs =
     let at-action-of = c .before .before .before .before .before .before .before in
     let at-record-at = at-action-of .before .before .before in
     let entry = at-record-at .before .before in
-    held-fine (recordOf (now (entry .args .s))) (entry .args .i) (at-record-at .record-at .result) _ (at-record-at .record-at .ensures) (at-action-of .action-of .ensures) (entry .pre)
+    held-fine (recordOf (now (entry .args .s))) (entry .args .i) (at-record-at .record-at .result) _ (at-record-at .record-at .ensures)
+    (at-action-of .action-of .ensures) (entry .pre)
 
 declares-otherwise-requires-2 : tie.Need-declares-otherwise-requires-2
 declares-otherwise-requires-2 c κs = search needs
@@ -71,13 +77,24 @@ returns-2 c =
     let at-action-of = at-has-goto-flag .before in
     let at-record-at = at-action-of .before .before .before in
     let entry = at-record-at .before .before in
-    let a = entry .args in c .declares-otherwise2 .ensures ∙ ap (differs (at-record-at2 .record-at2 .result .declared) (at-record-at .record-at .result .declared .home) (at-record-at .record-at .result .declared .depth)) (c .before .held-after .ensures ∙ ap (λ (x : Action). heldAfter x (at-record-at .record-at .result .declared .held)) (at-action-of .action-of .ensures)) ∙ other-target (recordOf (now (a .s))) (count (now (a .s))) (a .i) (at-record-at .record-at .result) (at-record-at2 .record-at2 .result) (at-record-at .record-at .ensures) (at-record-at2 .record-at2 .ensures) (ap gotoFlag (sym (at-action-of .action-of .ensures)) ∙ sym (at-has-goto-flag .has-goto-flag .ensures) ∙ at-if1 .if1 .taken) (ap isGosub (sym (at-action-of .action-of .ensures)) ∙ sym (at-is-gosub .is-gosub .ensures) ∙ at-if2 .if2 .left)
+    let a = entry .args in
+    c .declares-otherwise2 .ensures
+    ∙ ap
+    (differs (at-record-at2 .record-at2 .result .declared) (at-record-at .record-at .result .declared .home)
+    (at-record-at .record-at .result .declared .depth))
+    (c .before .held-after .ensures ∙ ap (λ (x : Action). heldAfter x (at-record-at .record-at .result .declared .held)) (at-action-of .action-of .ensures))
+    ∙ other-target (recordOf (now (a .s))) (count (now (a .s))) (a .i) (at-record-at .record-at .result) (at-record-at2 .record-at2 .result)
+    (at-record-at .record-at .ensures) (at-record-at2 .record-at2 .ensures)
+    (ap gotoFlag (sym (at-action-of .action-of .ensures)) ∙ sym (at-has-goto-flag .has-goto-flag .ensures) ∙ at-if1 .if1 .taken)
+    (ap isGosub (sym (at-action-of .action-of .ensures)) ∙ sym (at-is-gosub .is-gosub .ensures) ∙ at-if2 .if2 .left)
 
 returns-3 : tie.Need-returns-3
 returns-3 c =
     let at-record-at = c .before .before .before .before .before in
     let entry = at-record-at .before .before in
-    let a = entry .args in no-target (recordOf (now (a .s))) (count (now (a .s))) (a .i) (at-record-at .record-at .result) (at-record-at .record-at .ensures) (ap gotoFlag (sym (c .before .before .action-of .ensures)) ∙ sym (c .before .has-goto-flag .ensures) ∙ c .if1 .left)
+    let a = entry .args in
+    no-target (recordOf (now (a .s))) (count (now (a .s))) (a .i) (at-record-at .record-at .result) (at-record-at .record-at .ensures)
+    (ap gotoFlag (sym (c .before .before .action-of .ensures)) ∙ sym (c .before .has-goto-flag .ensures) ∙ c .if1 .left)
 
 pub target-differs-spec : {M : Type 1} → statement M
 target-differs-spec =

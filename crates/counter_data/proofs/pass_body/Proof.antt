@@ -25,7 +25,9 @@ add-t5 : tie.Need-add-t5
 add-t5 c = search needs
 
 returns-3 : tie.Need-returns-3
-returns-3 c = let a = c .before .before .before .before .args in body-there (a .s .now) _ _ (a .version) (c .before .before .body-size .ensures) (c .before .if1 .left) (c .if2 .left)
+returns-3 c =
+    let a = c .before .before .before .before .args in
+    body-there (a .s .now) _ _ (a .version) (c .before .before .body-size .ensures) (c .before .if1 .left) (c .if2 .left)
 
 pub pass-body-spec : {M : Type 1} → statement M
 pass-body-spec =

@@ -37,7 +37,9 @@ pass-run-requires-5 c κs = search needs
 returns : tie.Need-returns
 returns c =
     let at-pre = c .before .before .before .before in
-    ⊎-elim (λ e. body-run _ _ _ _ 1 _ e (at-pre .pre) (c .pass-run .ensures)) (⊎-elim (λ e. body-run _ _ _ _ 4 _ e (at-pre .pre) (c .pass-run .ensures)) (λ e. body-run _ _ _ _ 6 _ e (at-pre .pre) (c .pass-run .ensures))) (c .before .before .match .keys1)
+    ⊎-elim (λ e. body-run _ _ _ _ 1 _ e (at-pre .pre) (c .pass-run .ensures))
+    (⊎-elim (λ e. body-run _ _ _ _ 4 _ e (at-pre .pre) (c .pass-run .ensures)) (λ e. body-run _ _ _ _ 6 _ e (at-pre .pre) (c .pass-run .ensures)))
+    (c .before .before .match .keys1)
 
 returns-2 : tie.Need-returns-2
 returns-2 c = body-run _ _ _ _ 2 _ (c .before .before .match .keys2) (c .before .before .before .before .pre) (c .pass-run2 .ensures)

@@ -24,7 +24,12 @@ enum-told c = search needs
 
 returns-2 : tie.Need-returns-2
 unfolding counterAt
-returns-2 c = rw (ne-eqb _ _ (c .before .before .before .if1 .left), sym (c .before .before .read-word .ensures) ∙ c .enum-told .given .1, word-cut _ _ _ (sym (c .before .before .read-word .ensures) ∙ c .enum-told .given .1))
+returns-2 c =
+    rw (
+      ne-eqb _ _ (c .before .before .before .if1 .left),
+      sym (c .before .before .read-word .ensures) ∙ c .enum-told .given .1,
+      word-cut _ _ _ (sym (c .before .before .read-word .ensures) ∙ c .enum-told .given .1),
+    )
 
 cast-t8 : tie.Need-cast-t8
 cast-t8 c = search needs

@@ -58,22 +58,50 @@ returns-2 : tie.Need-returns-2
 returns-2 c =
     let at-version = c .before .before .before .before in
     let at-read-word = at-version .before .before in
-    ⊎-elim (λ e. c .read-values .ensures ∙ sym (values-arm _ _ _ _ 1 (sym (at-read-word .read-word .ensures) ∙ at-version .version .given .1) e refl)) (⊎-elim (λ e. c .read-values .ensures ∙ sym (values-arm _ _ _ _ 4 (sym (at-read-word .read-word .ensures) ∙ at-version .version .given .1) e refl)) (λ e. c .read-values .ensures ∙ sym (values-arm _ _ _ _ 6 (sym (at-read-word .read-word .ensures) ∙ at-version .version .given .1) e refl))) (c .before .before .match2 .keys1)
+    ⊎-elim (λ e. c .read-values .ensures ∙ sym (values-arm _ _ _ _ 1 (sym (at-read-word .read-word .ensures) ∙ at-version .version .given .1) e refl))
+    (⊎-elim (λ e. c .read-values .ensures ∙ sym (values-arm _ _ _ _ 4 (sym (at-read-word .read-word .ensures) ∙ at-version .version .given .1) e refl))
+    (λ e. c .read-values .ensures ∙ sym (values-arm _ _ _ _ 6 (sym (at-read-word .read-word .ensures) ∙ at-version .version .given .1) e refl)))
+    (c .before .before .match2 .keys1)
 
 returns-3 : tie.Need-returns-3
-returns-3 c = c .read-values2 .ensures ∙ sym (values-arm _ _ _ _ 2 (sym (c .before .before .before .before .before .before .read-word .ensures) ∙ c .before .before .before .before .version .given .1) (c .before .before .match2 .keys2) refl)
+returns-3 c =
+    c .read-values2 .ensures
+    ∙ sym
+    (values-arm _ _ _ _ 2
+    (sym (c .before .before .before .before .before .before .read-word .ensures) ∙ c .before .before .before .before .version .given .1)
+    (c .before .before .match2 .keys2) refl)
 
 returns-4 : tie.Need-returns-4
-returns-4 c = c .read-values3 .ensures ∙ sym (values-arm _ _ _ _ 3 (sym (c .before .before .before .before .before .before .read-word .ensures) ∙ c .before .before .before .before .version .given .1) (c .before .before .match2 .keys3) refl)
+returns-4 c =
+    c .read-values3 .ensures
+    ∙ sym
+    (values-arm _ _ _ _ 3
+    (sym (c .before .before .before .before .before .before .read-word .ensures) ∙ c .before .before .before .before .version .given .1)
+    (c .before .before .match2 .keys3) refl)
 
 returns-5 : tie.Need-returns-5
-returns-5 c = c .read-values4 .ensures ∙ sym (values-arm _ _ _ _ 5 (sym (c .before .before .before .before .before .before .read-word .ensures) ∙ c .before .before .before .before .version .given .1) (c .before .before .match2 .keys4) refl)
+returns-5 c =
+    c .read-values4 .ensures
+    ∙ sym
+    (values-arm _ _ _ _ 5
+    (sym (c .before .before .before .before .before .before .read-word .ensures) ∙ c .before .before .before .before .version .given .1)
+    (c .before .before .match2 .keys4) refl)
 
 returns-6 : tie.Need-returns-6
-returns-6 c = c .read-values5 .ensures ∙ sym (values-arm _ _ _ _ 7 (sym (c .before .before .before .before .before .before .read-word .ensures) ∙ c .before .before .before .before .version .given .1) (c .before .before .match2 .keys5) refl)
+returns-6 c =
+    c .read-values5 .ensures
+    ∙ sym
+    (values-arm _ _ _ _ 7
+    (sym (c .before .before .before .before .before .before .read-word .ensures) ∙ c .before .before .before .before .version .given .1)
+    (c .before .before .match2 .keys5) refl)
 
 returns-7 : tie.Need-returns-7
-returns-7 c = let r = c .before .match2 .rest in c .no-values2 .ensures ∙ sym (values-bad _ _ _ _ (sym (c .before .before .before .before .before .read-word .ensures) ∙ c .before .before .before .version .given .1) (not-listed _ (r .0 .0 .0 .0 .1) (r .0 .0 .0 .1) (r .0 .0 .1) (r .0 .1) (r .1)))
+returns-7 c =
+    let r = c .before .match2 .rest in
+    c .no-values2 .ensures
+    ∙ sym
+    (values-bad _ _ _ _ (sym (c .before .before .before .before .before .read-word .ensures) ∙ c .before .before .before .version .given .1)
+    (not-listed _ (r .0 .0 .0 .0 .1) (r .0 .0 .0 .1) (r .0 .0 .1) (r .0 .1) (r .1)))
 
 pub read-counter-values-spec : {M : Type 1} → statement M
 read-counter-values-spec =

@@ -37,7 +37,10 @@ returns c =
     let at-loop-test = at-read-counter .before .before in
     let at-loop = at-loop-test .before in
     let at-pre = at-loop .before .before .before in
-    c .no-values .ensures ∙ sym (progress-cut _ _ _ _ _ _ _ _ (at-loop .loop .inv) (at-loop-test .loop-test .taken) (at-pre .pre .1) (sym (at-read-counter .read-counter .ensures) ∙ c .before .enum-told .given .1))
+    c .no-values .ensures
+    ∙ sym
+    (progress-cut _ _ _ _ _ _ _ _ (at-loop .loop .inv) (at-loop-test .loop-test .taken) (at-pre .pre .1)
+    (sym (at-read-counter .read-counter .ensures) ∙ c .before .enum-told .given .1))
 
 mul-numbers : tie.Need-mul-numbers Inv-loop μ-loop
 mul-numbers c = search needs
@@ -57,7 +60,8 @@ loop-again c =
     let at-loop-test = at-read-counter .before .before in
     let at-loop = at-loop-test .before in
     let at-pre = at-loop .before .before .before in
-    progress-step _ _ _ _ _ _ _ _ (at-loop .loop .inv) (at-loop-test .loop-test .taken) (at-pre .pre) (sym (at-read-counter .read-counter .ensures) ∙ c .before .v .given .1)
+    progress-step _ _ _ _ _ _ _ _ (at-loop .loop .inv) (at-loop-test .loop-test .taken) (at-pre .pre)
+    (sym (at-read-counter .read-counter .ensures) ∙ c .before .v .given .1)
 
 returns-2 : tie.Need-returns-2 Inv-loop μ-loop
 returns-2 c = sym (progress-found _ _ _ _ _ _ _ (c .before .loop .inv) (c .loop-test .left))

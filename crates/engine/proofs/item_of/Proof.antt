@@ -27,13 +27,17 @@ returns c =
     let at-attribute = at-action-of .before in
     let at-record-at = at-attribute .before .before in
     let entry = at-record-at .before .before in
-    by-packet (ruleOf (now (entry .args .s))) (attribute (entry .args .a)) (entry .args .i) _ (ap (λ (x : RuleRecord). x .rule) (at-record-at .record-at .ensures)) _ (at-attribute .attribute .ensures) (search needs) (sym (ap queuesPacket (at-action-of .action-of .ensures)) ∙ sym (c .before .before .queues-packet .ensures) ∙ c .before .if1 .taken)
+    by-packet (ruleOf (now (entry .args .s))) (attribute (entry .args .a)) (entry .args .i) _
+    (ap (λ (x : RuleRecord). x .rule) (at-record-at .record-at .ensures)) _ (at-attribute .attribute .ensures) (search needs)
+    (sym (ap queuesPacket (at-action-of .action-of .ensures)) ∙ sym (c .before .before .queues-packet .ensures) ∙ c .before .if1 .taken)
 
 returns-2 : tie.Need-returns-2
 returns-2 c =
     let at-record-at = c .before .before .before .before .before in
     let entry = at-record-at .before .before in
-    by-rule (ruleOf (now (entry .args .s))) (attribute (entry .args .a)) (entry .args .i) _ (ap (λ (x : RuleRecord). x .rule) (at-record-at .record-at .ensures)) (sym (ap queuesPacket (c .before .before .action-of .ensures)) ∙ sym (c .before .queues-packet .ensures) ∙ c .if1 .left)
+    by-rule (ruleOf (now (entry .args .s))) (attribute (entry .args .a)) (entry .args .i) _
+    (ap (λ (x : RuleRecord). x .rule) (at-record-at .record-at .ensures))
+    (sym (ap queuesPacket (c .before .before .action-of .ensures)) ∙ sym (c .before .queues-packet .ensures) ∙ c .if1 .left)
 
 pub item-of-spec : {M : Type 1} → statement M
 item-of-spec =

@@ -23,7 +23,11 @@ no-key-requires : tie.Need-no-key-requires Inv-loop μ-loop
 no-key-requires c κs = search needs
 
 loop-holds : tie.Need-loop-holds Inv-loop μ-loop
-loop-holds c = (omega arith, c .no-key .ensures ∙ sym (key-none (itemOf (ruleOf (now (c .before .before .args .s))) (attribute (c .before .before .args .a))) (c .before .before .args .t3 .queue)))
+loop-holds c = (
+  omega arith,
+  c .no-key .ensures
+      ∙ sym (key-none (itemOf (ruleOf (now (c .before .before .args .s))) (attribute (c .before .before .args .a))) (c .before .before .args .t3 .queue)),
+)
 
 sub-left : tie.Need-sub-left Inv-loop μ-loop
 sub-left c = search needs
@@ -52,8 +56,14 @@ loop-less c = omega arith
 loop-again : tie.Need-loop-again Inv-loop μ-loop
 loop-again c =
     let at-loop = c .before .before .before .before .before in
-    let entry = at-loop .before .before .before in
-    (omega arith, c .put-item .ensures ∙ ap (λ (k : FlowKey). put k (c .before .item-of .result)) (at-loop .loop .inv .1) ∙ ap (put (keyOf (map (itemOf (ruleOf (now (entry .args .s))) (attribute (entry .args .a))) (stackOf (entry .args .t3 .queue) (at-loop .loop .j))))) (c .before .item-of .ensures ∙ ap (itemOf (ruleOf (now (entry .args .s))) (attribute (entry .args .a))) (c .before .before .wide .ensures .0)) ∙ sym (key-more (itemOf (ruleOf (now (entry .args .s))) (attribute (entry .args .a))) (entry .args .t3 .queue) (at-loop .loop .j)))
+    let entry = at-loop .before .before .before in (
+      omega arith,
+      c .put-item .ensures
+          ∙ ap (λ (k : FlowKey). put k (c .before .item-of .result)) (at-loop .loop .inv .1)
+          ∙ ap (put (keyOf (map (itemOf (ruleOf (now (entry .args .s))) (attribute (entry .args .a))) (stackOf (entry .args .t3 .queue) (at-loop .loop .j)))))
+          (c .before .item-of .ensures ∙ ap (itemOf (ruleOf (now (entry .args .s))) (attribute (entry .args .a))) (c .before .before .wide .ensures .0))
+          ∙ sym (key-more (itemOf (ruleOf (now (entry .args .s))) (attribute (entry .args .a))) (entry .args .t3 .queue) (at-loop .loop .j)),
+    )
 
 returns : tie.Need-returns Inv-loop μ-loop
 returns c = let e : c .before .loop .j ≡ c .before .before .before .before .args .t3 .held = omega arith in rw e at (c .before .loop .inv .1)

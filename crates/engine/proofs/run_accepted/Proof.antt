@@ -22,7 +22,9 @@ returns : tie.Need-returns
 returns c =
     let at-read-sample = c .before .before .before in
     let entry = at-read-sample .before .before .before in
-    c .refused .ensures ∙ ap (ofSample (now (entry .args .s)) (now (entry .args .x))) (not-a-sample (now (entry .args .x)) _ _ (sym (at-read-sample .read-sample .ensures) ∙ c .before .enum-told .given .1))
+    c .refused .ensures
+    ∙ ap (ofSample (now (entry .args .s)) (now (entry .args .x)))
+    (not-a-sample (now (entry .args .x)) _ _ (sym (at-read-sample .read-sample .ensures) ∙ c .before .enum-told .given .1))
 
 refused-requires-2 : tie.Need-refused-requires-2
 refused-requires-2 c κs = search needs
@@ -32,7 +34,9 @@ returns-2 c =
     let at-found = c .before .before .before in
     let at-read-sample = at-found .before .before in
     let entry = at-read-sample .before .before .before in
-    c .refused2 .ensures ∙ ap (ofSample (now (entry .args .s)) (now (entry .args .x))) (not-all (now (entry .args .x)) _ _ (sym (at-read-sample .read-sample .ensures) ∙ at-found .found .given .1) (c .before .if1 .taken))
+    c .refused2 .ensures
+    ∙ ap (ofSample (now (entry .args .s)) (now (entry .args .x)))
+    (not-all (now (entry .args .x)) _ _ (sym (at-read-sample .read-sample .ensures) ∙ at-found .found .given .1) (c .before .if1 .taken))
 
 enum-known-values : tie.Need-enum-known-values
 enum-known-values c = search needs
@@ -52,7 +56,10 @@ returns-3 c =
     let at-found = at-if1 .before .before in
     let at-read-sample = at-found .before .before in
     let entry = at-read-sample .before .before .before in
-    c .run-flow .ensures ∙ ap (ofSample (now (entry .args .s)) (now (entry .args .x))) (a-flow (now (entry .args .x)) _ _ (sym (at-read-sample .read-sample .ensures) ∙ at-found .found .given .1) (at-if1 .if1 .left) _ (c .before .before .values .given .1))
+    c .run-flow .ensures
+    ∙ ap (ofSample (now (entry .args .s)) (now (entry .args .x)))
+    (a-flow (now (entry .args .x)) _ _ (sym (at-read-sample .read-sample .ensures) ∙ at-found .found .given .1) (at-if1 .if1 .left) _
+    (c .before .before .values .given .1))
 
 returns-4 : tie.Need-returns-4
 returns-4 c =
@@ -60,7 +67,10 @@ returns-4 c =
     let at-found = at-if1 .before .before in
     let at-read-sample = at-found .before .before in
     let entry = at-read-sample .before .before .before in
-    c .refused3 .ensures ∙ ap (ofSample (now (entry .args .s)) (now (entry .args .x))) (no-flow (now (entry .args .x)) _ _ (sym (at-read-sample .read-sample .ensures) ∙ at-found .found .given .1) (at-if1 .if1 .left) _ (c .before .enum-told2 .given .1))
+    c .refused3 .ensures
+    ∙ ap (ofSample (now (entry .args .s)) (now (entry .args .x)))
+    (no-flow (now (entry .args .x)) _ _ (sym (at-read-sample .read-sample .ensures) ∙ at-found .found .given .1) (at-if1 .if1 .left) _
+    (c .before .enum-told2 .given .1))
 
 pub run-accepted-spec : {M : Type 1} → statement M
 run-accepted-spec =

@@ -26,7 +26,10 @@ returns c =
     let at-run-machine = c .before .before in
     let at-attributes-of = at-run-machine .before in
     let entry = at-attributes-of .before .before .before in
-    flow-result (now (entry .args .s)) (now (entry .args .x)) (entry .args .f) (at-attributes-of .attributes-of .result) (at-attributes-of .attributes-of .ensures) (entry .pre) (at-run-machine .run-machine .result) (at-run-machine .run-machine .ensures) (record { answer = c .answer-of .result; key = c .before .key-of .result; rules = at-run-machine .run-machine .result .rules }) (c .answer-of .ensures) (c .before .key-of .ensures) refl
+    flow-result (now (entry .args .s)) (now (entry .args .x)) (entry .args .f) (at-attributes-of .attributes-of .result)
+    (at-attributes-of .attributes-of .ensures) (entry .pre) (at-run-machine .run-machine .result) (at-run-machine .run-machine .ensures)
+    (record { answer = c .answer-of .result; key = c .before .key-of .result; rules = at-run-machine .run-machine .result .rules })
+    (c .answer-of .ensures) (c .before .key-of .ensures) refl
 
 pub run-flow-spec : {M : Type 1} → statement M
 run-flow-spec =

@@ -23,19 +23,44 @@ start-requires : tie.Need-start-requires Inv-loop μ-loop
 start-requires c κs = search needs
 
 loop-holds : tie.Need-loop-holds Inv-loop μ-loop
-loop-holds c = let e = c .start .ensures in let k : after (count (now (c .before .before .args .s))) (ruleOf (now (c .before .before .args .s))) (attribute (c .before .before .args .a)) 0 ≡ running start = unfold after in refl in rw e (sym k, refl, refl)
+loop-holds c =
+    let e = c .start .ensures in
+    let entry = c .before .before .args in
+    let k : after (count (now (entry .s))) (ruleOf (now (entry .s))) (attribute (entry .a)) 0 ≡ running start = unfold after in refl in
+    rw e (sym k, refl, refl)
 
 step-once-requires : tie.Need-step-once-requires Inv-loop μ-loop
-step-once-requires c κs = live (now (c .before .before .before .before .before .args .s)) (c .before .before .before .before .before .pre) (attribute (c .before .before .before .before .before .args .a)) (c .before .before .loop .m) (c .before .before .loop .inv .0) (c .if1 .taken) (c .before .before .loop .inv .1) (c .before .before .loop .inv .2)
+step-once-requires c κs =
+    live (now (c .before .before .before .before .before .args .s)) (c .before .before .before .before .before .pre)
+    (attribute (c .before .before .before .before .before .args .a)) (c .before .before .loop .m) (c .before .before .loop .inv .0) (c .if1 .taken)
+    (c .before .before .loop .inv .1) (c .before .before .loop .inv .2)
 
 loop-less : tie.Need-loop-less Inv-loop μ-loop
-loop-less c = let r = stepped-rules (now (c .before .before .before .before .before .before .args .s)) (c .before .before .before .before .before .before .pre) (attribute (c .before .before .before .before .before .before .args .a)) (c .before .before .before .loop .m) (c .before .before .before .loop .inv .0) (c .before .if1 .taken) (c .step-once .result) (c .step-once .ensures) in let h = more (now (c .before .before .before .before .before .before .args .s)) (c .before .before .before .before .before .before .pre) (attribute (c .before .before .before .before .before .before .args .a)) (c .before .before .before .loop .m) (c .before .before .before .loop .inv .0) (c .before .if1 .taken) in omega (arith, r, h)
+loop-less c =
+    let r =
+    (let at-loop = c .before .before .before in
+    let entry = at-loop .before .before .before in
+    stepped-rules (now (entry .args .s)) (entry .pre) (attribute (entry .args .a)) (at-loop .loop .m) (at-loop .loop .inv .0) (c .before .if1 .taken)
+    (c .step-once .result) (c .step-once .ensures)) in
+    let h =
+    (let at-loop = c .before .before .before in
+    let entry = at-loop .before .before .before in
+    more (now (entry .args .s)) (entry .pre) (attribute (entry .args .a)) (at-loop .loop .m) (at-loop .loop .inv .0) (c .before .if1 .taken)) in
+    omega (arith, r, h)
 
 loop-again : tie.Need-loop-again Inv-loop μ-loop
-loop-again c = (stepped (now (c .before .before .before .before .before .before .args .s)) (c .before .before .before .before .before .before .pre) (attribute (c .before .before .before .before .before .before .args .a)) (c .before .before .before .loop .m) (c .before .before .before .loop .inv .0) (c .before .if1 .taken) (c .step-once .result) (c .step-once .ensures), search needs, search needs)
+loop-again c =
+    let next =
+    (let at-loop = c .before .before .before in
+    let entry = at-loop .before .before .before in
+    stepped (now (entry .args .s)) (entry .pre) (attribute (entry .args .a)) (at-loop .loop .m) (at-loop .loop .inv .0) (c .before .if1 .taken)
+    (c .step-once .result) (c .step-once .ensures)) in
+    (next, search needs, search needs)
 
 returns : tie.Need-returns Inv-loop μ-loop
-returns c = finished (now (c .before .before .before .before .before .args .s)) (c .before .before .before .before .before .pre) (attribute (c .before .before .before .before .before .args .a)) (c .before .before .loop .m) (c .before .before .loop .inv .0) (c .if1 .left)
+returns c =
+    finished (now (c .before .before .before .before .before .args .s)) (c .before .before .before .before .before .pre)
+    (attribute (c .before .before .before .before .before .args .a)) (c .before .before .loop .m) (c .before .before .loop .inv .0) (c .if1 .left)
 
 pub run-machine-spec : {M : Type 1} → statement M
 run-machine-spec =

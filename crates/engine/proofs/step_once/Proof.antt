@@ -26,13 +26,20 @@ returns c =
     let at-attribute = c .before .before .before in
     let at-record-at = at-attribute .before .before in
     let entry = at-record-at .before .before in
-    ap (outcomeOf (ruleOf (now (entry .args .s))) (attribute (entry .args .a))) (c .next-rule .ensures) ∙ step-failed (entry .args .n) (ruleOf (now (entry .args .s))) (attribute (entry .args .a)) (entry .args .m) (entry .pre) (rw (← (ap (λ (x : RuleRecord). x .rule) (at-record-at .record-at .ensures)), ← (at-attribute .attribute .ensures)) (sym (c .before .before .test-fails .ensures) ∙ c .before .if1 .taken))
+    ap (outcomeOf (ruleOf (now (entry .args .s))) (attribute (entry .args .a))) (c .next-rule .ensures)
+    ∙ step-failed (entry .args .n) (ruleOf (now (entry .args .s))) (attribute (entry .args .a)) (entry .args .m) (entry .pre)
+    (rw (← (ap (λ (x : RuleRecord). x .rule) (at-record-at .record-at .ensures)), ← (at-attribute .attribute .ensures))
+    (sym (c .before .before .test-fails .ensures) ∙ c .before .if1 .taken))
 
 action-of-requires : tie.Need-action-of-requires
 action-of-requires c κs = search needs
 
 acts-requires : tie.Need-acts-requires
-acts-requires c κs = let p = c .before .before .before .before .before .before .before .pre in let w = c .action-of .ensures in let q = (ap (λ (x : RuleRecord). x .rule) (c .before .before .before .before .before .record-at .ensures)) in (p .running-so, rw (w, q) (p .room), rw (w, q) (p .back))
+acts-requires c κs =
+    let p = c .before .before .before .before .before .before .before .pre in
+    let w = c .action-of .ensures in
+    let q = (ap (λ (x : RuleRecord). x .rule) (c .before .before .before .before .before .record-at .ensures)) in
+    (p .running-so, rw (w, q) (p .room), rw (w, q) (p .back))
 
 returns-2 : tie.Need-returns-2
 returns-2 c =
@@ -40,7 +47,11 @@ returns-2 c =
     let at-attribute = at-test-fails .before in
     let at-record-at = at-attribute .before .before in
     let entry = at-record-at .before .before in
-    ap (outcomeOf (ruleOf (now (entry .args .s))) (attribute (entry .args .a))) (c .acts .ensures) ∙ rw (c .before .action-of .ensures, (ap (λ (x : RuleRecord). x .rule) (at-record-at .record-at .ensures))) (step-acted (entry .args .n) (ruleOf (now (entry .args .s))) (attribute (entry .args .a)) (entry .args .m) (entry .pre) (rw (← (ap (λ (x : RuleRecord). x .rule) (at-record-at .record-at .ensures)), ← (at-attribute .attribute .ensures)) (sym (at-test-fails .test-fails .ensures) ∙ c .before .before .if1 .left)))
+    ap (outcomeOf (ruleOf (now (entry .args .s))) (attribute (entry .args .a))) (c .acts .ensures)
+    ∙ rw (c .before .action-of .ensures, (ap (λ (x : RuleRecord). x .rule) (at-record-at .record-at .ensures)))
+    (step-acted (entry .args .n) (ruleOf (now (entry .args .s))) (attribute (entry .args .a)) (entry .args .m) (entry .pre)
+    (rw (← (ap (λ (x : RuleRecord). x .rule) (at-record-at .record-at .ensures)), ← (at-attribute .attribute .ensures))
+    (sym (at-test-fails .test-fails .ensures) ∙ c .before .before .if1 .left)))
 
 pub step-once-spec : {M : Type 1} → statement M
 step-once-spec =

@@ -36,22 +36,48 @@ pass-url-requires : tie.Need-pass-url-requires
 pass-url-requires c κs = search needs
 
 returns-2 : tie.Need-returns-2
-returns-2 c = sym (passed-arm _ _ _ _ _ _ _ (sym (c .before .before .before .before .before .before .read-word .ensures) ∙ c .before .before .before .before .kind .given .1) 1 (c .before .before .match2 .keys1) refl ∙ (passed-run _ _ _ _ _ refl (sym (c .pass-run .ensures))))
+returns-2 c =
+    sym
+    (passed-arm _ _ _ _ _ _ _
+    (sym (c .before .before .before .before .before .before .read-word .ensures) ∙ c .before .before .before .before .kind .given .1) 1
+    (c .before .before .match2 .keys1) refl
+    ∙ (passed-run _ _ _ _ _ refl (sym (c .pass-run .ensures))))
 
 returns-3 : tie.Need-returns-3
-returns-3 c = c .pass-router .ensures ∙ sym (passed-arm _ _ _ _ _ _ _ (sym (c .before .before .before .before .before .read-word .ensures) ∙ c .before .before .before .kind .given .1) 2 (c .before .match2 .keys2) refl)
+returns-3 c =
+    c .pass-router .ensures
+    ∙ sym
+    (passed-arm _ _ _ _ _ _ _ (sym (c .before .before .before .before .before .read-word .ensures) ∙ c .before .before .before .kind .given .1) 2
+    (c .before .match2 .keys2) refl)
 
 returns-4 : tie.Need-returns-4
-returns-4 c = c .pass-gateway .ensures ∙ sym (passed-arm _ _ _ _ _ _ _ (sym (c .before .before .before .before .before .read-word .ensures) ∙ c .before .before .before .kind .given .1) 3 (c .before .match2 .keys3) refl)
+returns-4 c =
+    c .pass-gateway .ensures
+    ∙ sym
+    (passed-arm _ _ _ _ _ _ _ (sym (c .before .before .before .before .before .read-word .ensures) ∙ c .before .before .before .kind .given .1) 3
+    (c .before .match2 .keys3) refl)
 
 returns-5 : tie.Need-returns-5
-returns-5 c = c .pass-user .ensures ∙ sym (passed-arm _ _ _ _ _ _ _ (sym (c .before .before .before .before .before .read-word .ensures) ∙ c .before .before .before .kind .given .1) 4 (c .before .match2 .keys4) refl)
+returns-5 c =
+    c .pass-user .ensures
+    ∙ sym
+    (passed-arm _ _ _ _ _ _ _ (sym (c .before .before .before .before .before .read-word .ensures) ∙ c .before .before .before .kind .given .1) 4
+    (c .before .match2 .keys4) refl)
 
 returns-6 : tie.Need-returns-6
-returns-6 c = c .pass-url .ensures ∙ sym (passed-arm _ _ _ _ _ _ _ (sym (c .before .before .before .before .before .read-word .ensures) ∙ c .before .before .before .kind .given .1) 5 (c .before .match2 .keys5) refl)
+returns-6 c =
+    c .pass-url .ensures
+    ∙ sym
+    (passed-arm _ _ _ _ _ _ _ (sym (c .before .before .before .before .before .read-word .ensures) ∙ c .before .before .before .kind .given .1) 5
+    (c .before .match2 .keys5) refl)
 
 returns-7 : tie.Need-returns-7
-returns-7 c = let r = c .match2 .rest in sym (passed-view _ _ _ _ _ (other-kind _ _ _ _ (sym (c .before .before .before .before .read-word .ensures) ∙ c .before .before .kind .given .1) (r .0 .0 .0 .0 .1) (r .0 .0 .0 .1) (r .0 .0 .1) (r .0 .1) (r .1)))
+returns-7 c =
+    let r = c .match2 .rest in
+    sym
+    (passed-view _ _ _ _ _
+    (other-kind _ _ _ _ (sym (c .before .before .before .before .read-word .ensures) ∙ c .before .before .kind .given .1) (r .0 .0 .0 .0 .1)
+    (r .0 .0 .0 .1) (r .0 .0 .1) (r .0 .1) (r .1)))
 
 pub pass-entry-spec : {M : Type 1} → statement M
 pass-entry-spec =

@@ -17,7 +17,9 @@ enum-told : tie.Need-enum-told
 enum-told c = search needs
 
 returns : tie.Need-returns
-returns c = c .enum-told .given .1 ∙ sym (passed-then-refused _ _ _ _ _ _ (passed-run _ _ _ _ _ refl (sym (c .before .before .pass-run .ensures) ∙ c .enum-told .given .1)))
+returns c =
+    c .enum-told .given .1
+    ∙ sym (passed-then-refused _ _ _ _ _ _ (passed-run _ _ _ _ _ refl (sym (c .before .before .pass-run .ensures) ∙ c .enum-told .given .1)))
 
 read-word-requires : tie.Need-read-word-requires
 read-word-requires c κs = search needs
@@ -29,7 +31,12 @@ enum-told-2 : tie.Need-enum-told-2
 enum-told-2 c = search needs
 
 returns-2 : tie.Need-returns-2
-returns-2 c = sym (passed-then _ _ _ _ _ (passed-run _ _ _ _ _ refl (sym (c .before .before .before .before .before .before .pass-run .ensures) ∙ c .before .before .before .before .words .given .1)) ∙ passed-then-refused _ _ _ _ _ _ (passed-list-cut _ _ _ _ (sym (c .before .before .read-word .ensures) ∙ c .enum-told2 .given .1)))
+returns-2 c =
+    sym
+    (passed-then _ _ _ _ _
+    (passed-run _ _ _ _ _ refl
+    (sym (c .before .before .before .before .before .before .pass-run .ensures) ∙ c .before .before .before .before .words .given .1))
+    ∙ passed-then-refused _ _ _ _ _ _ (passed-list-cut _ _ _ _ (sym (c .before .before .read-word .ensures) ∙ c .enum-told2 .given .1)))
 
 pass-segments-requires : tie.Need-pass-segments-requires
 pass-segments-requires c κs = search needs
@@ -46,7 +53,12 @@ returns-3 c =
     let at-read-word = at-count .before .before in
     let at-words = at-read-word .before .before in
     let at-pass-run = at-words .before .before in
-    c .enum-told3 .given .1 ∙ sym (passed-then _ _ _ _ _ (passed-run _ _ _ _ _ refl (sym (at-pass-run .pass-run .ensures) ∙ at-words .words .given .1)) ∙ passed-then-refused _ _ _ _ _ _ (passed-list _ _ _ _ _ (sym (at-read-word .read-word .ensures) ∙ at-count .count .given .1) ∙ (sym (c .before .before .pass-segments .ensures) ∙ c .enum-told3 .given .1)))
+    c .enum-told3 .given .1
+    ∙ sym
+    (passed-then _ _ _ _ _ (passed-run _ _ _ _ _ refl (sym (at-pass-run .pass-run .ensures) ∙ at-words .words .given .1))
+    ∙ passed-then-refused _ _ _ _ _ _
+    (passed-list _ _ _ _ _ (sym (at-read-word .read-word .ensures) ∙ at-count .count .given .1)
+    ∙ (sym (c .before .before .pass-segments .ensures) ∙ c .enum-told3 .given .1)))
 
 pass-numbers-requires : tie.Need-pass-numbers-requires
 pass-numbers-requires c κs = search needs
@@ -65,7 +77,13 @@ returns-4 c =
     let at-read-word = at-count .before .before in
     let at-words = at-read-word .before .before in
     let at-pass-run = at-words .before .before in
-    c .enum-told4 .given .1 ∙ sym (passed-then _ _ _ _ _ (passed-run _ _ _ _ _ refl (sym (at-pass-run .pass-run .ensures) ∙ at-words .words .given .1)) ∙ passed-then _ _ _ _ _ (passed-list _ _ _ _ _ (sym (at-read-word .read-word .ensures) ∙ at-count .count .given .1) ∙ (sym (at-pass-segments .pass-segments .ensures) ∙ at-path .path .given .1)) ∙ passed-then-refused _ _ _ _ _ _ (sym (c .before .before .pass-numbers .ensures) ∙ c .enum-told4 .given .1))
+    c .enum-told4 .given .1
+    ∙ sym
+    (passed-then _ _ _ _ _ (passed-run _ _ _ _ _ refl (sym (at-pass-run .pass-run .ensures) ∙ at-words .words .given .1))
+    ∙ passed-then _ _ _ _ _
+    (passed-list _ _ _ _ _ (sym (at-read-word .read-word .ensures) ∙ at-count .count .given .1)
+    ∙ (sym (at-pass-segments .pass-segments .ensures) ∙ at-path .path .given .1))
+    ∙ passed-then-refused _ _ _ _ _ _ (sym (c .before .before .pass-numbers .ensures) ∙ c .enum-told4 .given .1))
 
 slice-aggregate-pass-run-2 : tie.Need-slice-aggregate-pass-run-2
 slice-aggregate-pass-run-2 c = search needs
@@ -83,7 +101,13 @@ returns-5 c =
     let at-read-word = at-count .before .before in
     let at-words = at-read-word .before .before in
     let at-pass-run = at-words .before .before in
-    sym (passed-then _ _ _ _ _ (passed-run _ _ _ _ _ refl (sym (at-pass-run .pass-run .ensures) ∙ at-words .words .given .1)) ∙ passed-then _ _ _ _ _ (passed-list _ _ _ _ _ (sym (at-read-word .read-word .ensures) ∙ at-count .count .given .1) ∙ (sym (at-pass-segments .pass-segments .ensures) ∙ at-path .path .given .1)) ∙ passed-then _ _ _ _ _ (sym (at-pass-numbers .pass-numbers .ensures) ∙ at-communities .communities .given .1) ∙ (passed-run _ _ _ _ _ refl (sym (c .pass-run2 .ensures))))
+    sym
+    (passed-then _ _ _ _ _ (passed-run _ _ _ _ _ refl (sym (at-pass-run .pass-run .ensures) ∙ at-words .words .given .1))
+    ∙ passed-then _ _ _ _ _
+    (passed-list _ _ _ _ _ (sym (at-read-word .read-word .ensures) ∙ at-count .count .given .1)
+    ∙ (sym (at-pass-segments .pass-segments .ensures) ∙ at-path .path .given .1))
+    ∙ passed-then _ _ _ _ _ (sym (at-pass-numbers .pass-numbers .ensures) ∙ at-communities .communities .given .1)
+    ∙ (passed-run _ _ _ _ _ refl (sym (c .pass-run2 .ensures))))
 
 pub pass-gateway-spec : {M : Type 1} → statement M
 pass-gateway-spec =

@@ -23,7 +23,10 @@ pass-run-requires : tie.Need-pass-run-requires
 pass-run-requires c κs = search needs
 
 returns-2 : tie.Need-returns-2
-returns-2 c = sym (passed-then _ _ _ _ _ (sym (c .before .before .before .before .before .pass-address .ensures) ∙ c .before .before .before .nexthop .given .1) ∙ passed-run _ _ _ _ _ refl (sym (c .pass-run .ensures)))
+returns-2 c =
+    sym
+    (passed-then _ _ _ _ _ (sym (c .before .before .before .before .before .pass-address .ensures) ∙ c .before .before .before .nexthop .given .1)
+    ∙ passed-run _ _ _ _ _ refl (sym (c .pass-run .ensures)))
 
 pub pass-router-spec : {M : Type 1} → statement M
 pass-router-spec =

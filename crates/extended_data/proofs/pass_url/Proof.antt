@@ -21,13 +21,21 @@ pass-string-requires : tie.Need-pass-string-requires
 pass-string-requires c κs = search needs
 
 returns-2 : tie.Need-returns-2
-returns-2 c = c .pass-string .ensures ∙ sym (passed-in _ 2 _ _ _ _ _ (sym (c .before .before .before .before .before .before .read-word .ensures) ∙ c .before .before .before .before .direction .given .1) (c .before .before .if1 .left) (omega arith))
+returns-2 c =
+    c .pass-string .ensures
+    ∙ sym
+    (passed-in _ 2 _ _ _ _ _
+    (sym (c .before .before .before .before .before .before .read-word .ensures) ∙ c .before .before .before .before .direction .given .1)
+    (c .before .before .if1 .left) (omega arith))
 
 returns-3 : tie.Need-returns-3
 returns-3 c = sym (passed-below _ _ _ _ _ _ _ (sym (c .before .before .before .before .read-word .ensures) ∙ c .before .before .direction .given .1) (c .if1 .taken))
 
 returns-4 : tie.Need-returns-4
-returns-4 c = sym (passed-above _ _ _ _ _ _ _ (sym (c .before .before .before .before .before .read-word .ensures) ∙ c .before .before .before .direction .given .1) (c .before .if1 .left) (c .if2 .left))
+returns-4 c =
+    sym
+    (passed-above _ _ _ _ _ _ _ (sym (c .before .before .before .before .before .read-word .ensures) ∙ c .before .before .before .direction .given .1)
+    (c .before .if1 .left) (c .if2 .left))
 
 pub pass-url-spec : {M : Type 1} → statement M
 pass-url-spec =

@@ -20,7 +20,9 @@ pass-string-requires-2 : tie.Need-pass-string-requires-2
 pass-string-requires-2 c κs = search needs
 
 returns-2 : tie.Need-returns-2
-returns-2 c = c .pass-string2 .ensures ∙ sym (passed-then _ _ _ _ _ (sym (c .before .before .before .before .pass-string .ensures) ∙ c .before .before .src-user .given .1))
+returns-2 c =
+    c .pass-string2 .ensures
+    ∙ sym (passed-then _ _ _ _ _ (sym (c .before .before .before .before .pass-string .ensures) ∙ c .before .before .src-user .given .1))
 
 pub pass-user-spec : {M : Type 1} → statement M
 pass-user-spec =

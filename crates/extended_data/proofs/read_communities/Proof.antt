@@ -42,14 +42,21 @@ returns-2 c =
     let at-pass-words = at-end .before .before in
     let at-count = at-pass-words .before .before in
     let at-read-word = at-count .before .before in
-    sym (ap asExtended (communities-found _ _ _ _ _ _ _ _ (sym (at-read-word .read-word .ensures) ∙ at-count .count .given .1) _ _ (sym (at-pass-words .pass-words .ensures) ∙ at-end .end .given .1) (reads-found (word-cut (sym (c .before .before .read-word2 .ensures) ∙ c .enum-told2 .given .1)))))
+    sym
+    (ap asExtended
+    (communities-found _ _ _ _ _ _ _ _ (sym (at-read-word .read-word .ensures) ∙ at-count .count .given .1) _ _
+    (sym (at-pass-words .pass-words .ensures) ∙ at-end .end .given .1)
+    (reads-found (word-cut (sym (c .before .before .read-word2 .ensures) ∙ c .enum-told2 .given .1)))))
 
 returns-3 : tie.Need-returns-3
 returns-3 c =
     let at-pass-words = c .before .before .before in
     let at-count = at-pass-words .before .before in
     let at-read-word = at-count .before .before in
-    sym (ap asExtended (communities-refused _ _ _ _ _ _ _ _ (sym (at-read-word .read-word .ensures) ∙ at-count .count .given .1) _ _ (sym (at-pass-words .pass-words .ensures) ∙ c .before .why .given .1)))
+    sym
+    (ap asExtended
+    (communities-refused _ _ _ _ _ _ _ _ (sym (at-read-word .read-word .ensures) ∙ at-count .count .given .1) _ _
+    (sym (at-pass-words .pass-words .ensures) ∙ c .before .why .given .1)))
 
 returns-4 : tie.Need-returns-4
 returns-4 c =
@@ -58,7 +65,11 @@ returns-4 c =
     let at-pass-words = at-end .before .before in
     let at-count = at-pass-words .before .before in
     let at-read-word = at-count .before .before in
-    sym (ap asExtended (communities-found _ _ _ _ _ _ _ _ (sym (at-read-word .read-word .ensures) ∙ at-count .count .given .1) _ _ (sym (at-pass-words .pass-words .ensures) ∙ at-end .end .given .1) (reads-found (word-then (sym (at-read-word2 .read-word2 .ensures) ∙ c .before .localpref .given .1) no-more))))
+    sym
+    (ap asExtended
+    (communities-found _ _ _ _ _ _ _ _ (sym (at-read-word .read-word .ensures) ∙ at-count .count .given .1) _ _
+    (sym (at-pass-words .pass-words .ensures) ∙ at-end .end .given .1)
+    (reads-found (word-then (sym (at-read-word2 .read-word2 .ensures) ∙ c .before .localpref .given .1) no-more))))
 
 pub read-communities-spec : {M : Type 1} → statement M
 read-communities-spec =

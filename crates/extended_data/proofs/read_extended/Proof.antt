@@ -22,13 +22,23 @@ read-switch-requires : tie.Need-read-switch-requires
 read-switch-requires c κs = search needs
 
 returns-2 : tie.Need-returns-2
-returns-2 c = c .read-switch .ensures ∙ sym (ap asExtended (switch-kind _ _ _ _ (sym (c .before .before .before .before .before .read-word .ensures) ∙ c .before .before .before .kind .given .1) (c .before .if1 .taken)))
+returns-2 c =
+    c .read-switch .ensures
+    ∙ sym
+    (ap asExtended
+    (switch-kind _ _ _ _ (sym (c .before .before .before .before .before .read-word .ensures) ∙ c .before .before .before .kind .given .1)
+    (c .before .if1 .taken)))
 
 read-router-requires : tie.Need-read-router-requires
 read-router-requires c κs = search needs
 
 returns-3 : tie.Need-returns-3
-returns-3 c = c .read-router .ensures ∙ sym (ap asExtended (router-kind _ _ _ _ (sym (c .before .before .before .before .before .before .read-word .ensures) ∙ c .before .before .before .before .kind .given .1) (c .before .if2 .taken)))
+returns-3 c =
+    c .read-router .ensures
+    ∙ sym
+    (ap asExtended
+    (router-kind _ _ _ _ (sym (c .before .before .before .before .before .before .read-word .ensures) ∙ c .before .before .before .before .kind .given .1)
+    (c .before .if2 .taken)))
 
 read-gateway-requires : tie.Need-read-gateway-requires
 read-gateway-requires c κs = search needs
@@ -63,7 +73,10 @@ returns-7 c =
     let at-if1 = at-if2 .before in
     let at-kind = at-if1 .before .before in
     let at-read-word = at-kind .before .before in
-    sym (ap asExtended (other-kind _ _ _ _ (sym (at-read-word .read-word .ensures) ∙ at-kind .kind .given .1) (at-if1 .if1 .left) (at-if2 .if2 .left) (c .before .before .if3 .left) (c .before .if4 .left) (c .if5 .left)))
+    sym
+    (ap asExtended
+    (other-kind _ _ _ _ (sym (at-read-word .read-word .ensures) ∙ at-kind .kind .given .1) (at-if1 .if1 .left) (at-if2 .if2 .left)
+    (c .before .before .if3 .left) (c .before .if4 .left) (c .if5 .left)))
 
 pub read-extended-spec : {M : Type 1} → statement M
 read-extended-spec =

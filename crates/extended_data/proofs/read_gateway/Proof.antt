@@ -29,7 +29,13 @@ enum-told-2 : tie.Need-enum-told-2
 enum-told-2 c = search needs
 
 returns-2 : tie.Need-returns-2
-returns-2 c = sym (ap asExtended (then-refused _ _ _ _ _ _ _ (reads-found (word-then (sym (c .before .before .before .before .before .before .read-word .ensures) ∙ c .before .before .before .before .router-as .given .1) (word-cut (sym (c .before .before .read-word2 .ensures) ∙ c .enum-told2 .given .1))))))
+returns-2 c =
+    sym
+    (ap asExtended
+    (then-refused _ _ _ _ _ _ _
+    (reads-found
+    (word-then (sym (c .before .before .before .before .before .before .read-word .ensures) ∙ c .before .before .before .before .router-as .given .1)
+    (word-cut (sym (c .before .before .read-word2 .ensures) ∙ c .enum-told2 .given .1))))))
 
 read-word-requires-3 : tie.Need-read-word-requires-3
 read-word-requires-3 c κs = search needs
@@ -46,7 +52,13 @@ returns-3 c =
     let at-read-word2 = at-src-as .before .before in
     let at-router-as = at-read-word2 .before .before in
     let at-read-word = at-router-as .before .before in
-    sym (ap asExtended (then-refused _ _ _ _ _ _ _ (reads-found (word-then (sym (at-read-word .read-word .ensures) ∙ at-router-as .router-as .given .1) (word-then (sym (at-read-word2 .read-word2 .ensures) ∙ at-src-as .src-as .given .1) (word-cut (sym (c .before .before .read-word3 .ensures) ∙ c .enum-told3 .given .1)))))))
+    sym
+    (ap asExtended
+    (then-refused _ _ _ _ _ _ _
+    (reads-found
+    (word-then (sym (at-read-word .read-word .ensures) ∙ at-router-as .router-as .given .1)
+    (word-then (sym (at-read-word2 .read-word2 .ensures) ∙ at-src-as .src-as .given .1)
+    (word-cut (sym (c .before .before .read-word3 .ensures) ∙ c .enum-told3 .given .1)))))))
 
 read-word-requires-4 : tie.Need-read-word-requires-4
 read-word-requires-4 c κs = search needs
@@ -65,7 +77,14 @@ returns-4 c =
     let at-read-word2 = at-src-as .before .before in
     let at-router-as = at-read-word2 .before .before in
     let at-read-word = at-router-as .before .before in
-    sym (ap asExtended (path-cut _ _ _ _ _ _ (reads-found (word-then (sym (at-read-word .read-word .ensures) ∙ at-router-as .router-as .given .1) (word-then (sym (at-read-word2 .read-word2 .ensures) ∙ at-src-as .src-as .given .1) (word-then (sym (at-read-word3 .read-word3 .ensures) ∙ at-src-peer-as .src-peer-as .given .1) no-more)))) _ (sym (c .before .before .read-word4 .ensures) ∙ c .enum-told4 .given .1)))
+    sym
+    (ap asExtended
+    (path-cut _ _ _ _ _ _
+    (reads-found
+    (word-then (sym (at-read-word .read-word .ensures) ∙ at-router-as .router-as .given .1)
+    (word-then (sym (at-read-word2 .read-word2 .ensures) ∙ at-src-as .src-as .given .1)
+    (word-then (sym (at-read-word3 .read-word3 .ensures) ∙ at-src-peer-as .src-peer-as .given .1) no-more)))) _
+    (sym (c .before .before .read-word4 .ensures) ∙ c .enum-told4 .given .1)))
 
 pass-segments-requires : tie.Need-pass-segments-requires
 pass-segments-requires c κs = search needs
@@ -90,7 +109,14 @@ returns-5 c =
     let at-read-word2 = at-src-as .before .before in
     let at-router-as = at-read-word2 .before .before in
     let at-read-word = at-router-as .before .before in
-    sym (ap asExtended (path-refused _ _ _ _ _ _ (reads-found (word-then (sym (at-read-word .read-word .ensures) ∙ at-router-as .router-as .given .1) (word-then (sym (at-read-word2 .read-word2 .ensures) ∙ at-src-as .src-as .given .1) (word-then (sym (at-read-word3 .read-word3 .ensures) ∙ at-src-peer-as .src-peer-as .given .1) no-more)))) _ _ (sym (at-read-word4 .read-word4 .ensures) ∙ at-count .count .given .1) _ _ (sym (at-pass-segments .pass-segments .ensures) ∙ c .before .why .given .1)))
+    sym
+    (ap asExtended
+    (path-refused _ _ _ _ _ _
+    (reads-found
+    (word-then (sym (at-read-word .read-word .ensures) ∙ at-router-as .router-as .given .1)
+    (word-then (sym (at-read-word2 .read-word2 .ensures) ∙ at-src-as .src-as .given .1)
+    (word-then (sym (at-read-word3 .read-word3 .ensures) ∙ at-src-peer-as .src-peer-as .given .1) no-more)))) _ _
+    (sym (at-read-word4 .read-word4 .ensures) ∙ at-count .count .given .1) _ _ (sym (at-pass-segments .pass-segments .ensures) ∙ c .before .why .given .1)))
 
 returns-6 : tie.Need-returns-6
 returns-6 c =
@@ -103,7 +129,16 @@ returns-6 c =
     let at-read-word2 = at-src-as .before .before in
     let at-router-as = at-read-word2 .before .before in
     let at-read-word = at-router-as .before .before in
-    c .read-communities .ensures ∙ sym (ap asExtended (path-found _ _ _ _ _ _ (reads-found (word-then (sym (at-read-word .read-word .ensures) ∙ at-router-as .router-as .given .1) (word-then (sym (at-read-word2 .read-word2 .ensures) ∙ at-src-as .src-as .given .1) (word-then (sym (at-read-word3 .read-word3 .ensures) ∙ at-src-peer-as .src-peer-as .given .1) no-more)))) _ _ (sym (at-read-word4 .read-word4 .ensures) ∙ at-count .count .given .1) _ (sym (at-pass-segments .pass-segments .ensures) ∙ c .before .before .end .given .1)))
+    c .read-communities .ensures
+    ∙ sym
+    (ap asExtended
+    (path-found _ _ _ _ _ _
+    (reads-found
+    (word-then (sym (at-read-word .read-word .ensures) ∙ at-router-as .router-as .given .1)
+    (word-then (sym (at-read-word2 .read-word2 .ensures) ∙ at-src-as .src-as .given .1)
+    (word-then (sym (at-read-word3 .read-word3 .ensures) ∙ at-src-peer-as .src-peer-as .given .1) no-more)))) _ _
+    (sym (at-read-word4 .read-word4 .ensures) ∙ at-count .count .given .1) _
+    (sym (at-pass-segments .pass-segments .ensures) ∙ c .before .before .end .given .1)))
 
 pub read-gateway-spec : {M : Type 1} → statement M
 read-gateway-spec =

@@ -25,7 +25,12 @@ enum-told : tie.Need-enum-told
 enum-told c = search needs
 
 returns : tie.Need-returns
-returns c = sym (ap asExtended (router-masks _ _ _ _ _ (sym (c .before .before .before .before .before .before .read-address .ensures) ∙ c .before .before .before .before .nexthop .given .1) (reads-found (word-cut (sym (c .before .before .read-word .ensures) ∙ c .enum-told .given .1)))))
+returns c =
+    sym
+    (ap asExtended
+    (router-masks _ _ _ _ _
+    (sym (c .before .before .before .before .before .before .read-address .ensures) ∙ c .before .before .before .before .nexthop .given .1)
+    (reads-found (word-cut (sym (c .before .before .read-word .ensures) ∙ c .enum-told .given .1)))))
 
 read-word-requires-2 : tie.Need-read-word-requires-2
 read-word-requires-2 c κs = search needs
@@ -42,7 +47,12 @@ returns-2 c =
     let at-read-word = at-src-mask .before .before in
     let at-nexthop = at-read-word .before .before in
     let at-read-address = at-nexthop .before .before in
-    sym (ap asExtended (router-masks _ _ _ _ _ (sym (at-read-address .read-address .ensures) ∙ at-nexthop .nexthop .given .1) (reads-found (word-then (sym (at-read-word .read-word .ensures) ∙ at-src-mask .src-mask .given .1) (word-cut (sym (c .before .before .read-word2 .ensures) ∙ c .enum-told2 .given .1))))))
+    sym
+    (ap asExtended
+    (router-masks _ _ _ _ _ (sym (at-read-address .read-address .ensures) ∙ at-nexthop .nexthop .given .1)
+    (reads-found
+    (word-then (sym (at-read-word .read-word .ensures) ∙ at-src-mask .src-mask .given .1)
+    (word-cut (sym (c .before .before .read-word2 .ensures) ∙ c .enum-told2 .given .1))))))
 
 returns-3 : tie.Need-returns-3
 returns-3 c = sym (ap asExtended (router-refused _ _ _ _ (sym (c .before .before .before .read-address .ensures) ∙ c .before .why .given .1)))
@@ -54,7 +64,12 @@ returns-4 c =
     let at-read-word = at-src-mask .before .before in
     let at-nexthop = at-read-word .before .before in
     let at-read-address = at-nexthop .before .before in
-    sym (ap asExtended (router-masks _ _ _ _ _ (sym (at-read-address .read-address .ensures) ∙ at-nexthop .nexthop .given .1) (reads-found (word-then (sym (at-read-word .read-word .ensures) ∙ at-src-mask .src-mask .given .1) (word-then (sym (at-read-word2 .read-word2 .ensures) ∙ c .before .dst-mask .given .1) no-more)))))
+    sym
+    (ap asExtended
+    (router-masks _ _ _ _ _ (sym (at-read-address .read-address .ensures) ∙ at-nexthop .nexthop .given .1)
+    (reads-found
+    (word-then (sym (at-read-word .read-word .ensures) ∙ at-src-mask .src-mask .given .1)
+    (word-then (sym (at-read-word2 .read-word2 .ensures) ∙ c .before .dst-mask .given .1) no-more)))))
 
 pub read-router-spec : {M : Type 1} → statement M
 read-router-spec =

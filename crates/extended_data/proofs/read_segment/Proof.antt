@@ -20,10 +20,17 @@ returns : tie.Need-returns
 returns c = sym (ap asSegment (union-cut _ _ _ _ _ _ _ (sym (c .before .before .read-word .ensures) ∙ c .enum-told .given .1)))
 
 returns-2 : tie.Need-returns-2
-returns-2 c = sym (ap asSegment (enumeration-below _ _ _ _ _ _ _ _ (sym (c .before .before .before .before .read-word .ensures) ∙ c .before .before .kind .given .1) (c .if1 .taken)))
+returns-2 c =
+    sym
+    (ap asSegment
+    (enumeration-below _ _ _ _ _ _ _ _ (sym (c .before .before .before .before .read-word .ensures) ∙ c .before .before .kind .given .1) (c .if1 .taken)))
 
 returns-3 : tie.Need-returns-3
-returns-3 c = sym (ap asSegment (enumeration-above _ _ _ _ _ _ _ _ (sym (c .before .before .before .before .before .read-word .ensures) ∙ c .before .before .before .kind .given .1) (c .before .if1 .left) (c .if2 .taken)))
+returns-3 c =
+    sym
+    (ap asSegment
+    (enumeration-above _ _ _ _ _ _ _ _ (sym (c .before .before .before .before .before .read-word .ensures) ∙ c .before .before .before .kind .given .1)
+    (c .before .if1 .left) (c .if2 .taken)))
 
 read-word-requires-2 : tie.Need-read-word-requires-2
 read-word-requires-2 c κs = search needs
@@ -40,7 +47,10 @@ returns-4 c =
     let at-if1 = at-if2 .before in
     let at-kind = at-if1 .before .before in
     let at-read-word = at-kind .before .before in
-    sym (ap asSegment (segment-cut _ _ _ _ (sym (at-read-word .read-word .ensures) ∙ at-kind .kind .given .1) (at-if1 .if1 .left) (at-if2 .if2 .left) _ (sym (c .before .before .read-word2 .ensures) ∙ c .enum-told2 .given .1)))
+    sym
+    (ap asSegment
+    (segment-cut _ _ _ _ (sym (at-read-word .read-word .ensures) ∙ at-kind .kind .given .1) (at-if1 .if1 .left) (at-if2 .if2 .left) _
+    (sym (c .before .before .read-word2 .ensures) ∙ c .enum-told2 .given .1)))
 
 pass-words-requires : tie.Need-pass-words-requires
 pass-words-requires c κs = search needs
@@ -60,7 +70,10 @@ returns-5 c =
     let at-if1 = at-if2 .before in
     let at-kind = at-if1 .before .before in
     let at-read-word = at-kind .before .before in
-    sym (ap asSegment (segment-found _ _ _ _ (sym (at-read-word .read-word .ensures) ∙ at-kind .kind .given .1) (at-if1 .if1 .left) (at-if2 .if2 .left) _ _ (sym (at-read-word2 .read-word2 .ensures) ∙ at-count .count .given .1) _ (sym (at-pass-words .pass-words .ensures) ∙ c .before .next .given .1)))
+    sym
+    (ap asSegment
+    (segment-found _ _ _ _ (sym (at-read-word .read-word .ensures) ∙ at-kind .kind .given .1) (at-if1 .if1 .left) (at-if2 .if2 .left) _ _
+    (sym (at-read-word2 .read-word2 .ensures) ∙ at-count .count .given .1) _ (sym (at-pass-words .pass-words .ensures) ∙ c .before .next .given .1)))
 
 returns-6 : tie.Need-returns-6
 returns-6 c =
@@ -71,7 +84,10 @@ returns-6 c =
     let at-if1 = at-if2 .before in
     let at-kind = at-if1 .before .before in
     let at-read-word = at-kind .before .before in
-    sym (ap asSegment (segment-refused _ _ _ _ (sym (at-read-word .read-word .ensures) ∙ at-kind .kind .given .1) (at-if1 .if1 .left) (at-if2 .if2 .left) _ _ (sym (at-read-word2 .read-word2 .ensures) ∙ at-count .count .given .1) _ _ (sym (at-pass-words .pass-words .ensures) ∙ c .before .why .given .1)))
+    sym
+    (ap asSegment
+    (segment-refused _ _ _ _ (sym (at-read-word .read-word .ensures) ∙ at-kind .kind .given .1) (at-if1 .if1 .left) (at-if2 .if2 .left) _ _
+    (sym (at-read-word2 .read-word2 .ensures) ∙ at-count .count .given .1) _ _ (sym (at-pass-words .pass-words .ensures) ∙ c .before .why .given .1)))
 
 pub read-segment-spec : {M : Type 1} → statement M
 read-segment-spec =

@@ -20,10 +20,19 @@ returns : tie.Need-returns
 returns c = sym (ap asExtended (union-cut _ _ _ _ _ _ _ (sym (c .before .before .read-word .ensures) ∙ c .enum-told .given .1)))
 
 returns-2 : tie.Need-returns-2
-returns-2 c = sym (ap asExtended (enumeration-below _ _ _ _ _ _ _ _ (sym (c .before .before .before .before .read-word .ensures) ∙ c .before .before .direction .given .1) (c .if1 .taken)))
+returns-2 c =
+    sym
+    (ap asExtended
+    (enumeration-below _ _ _ _ _ _ _ _ (sym (c .before .before .before .before .read-word .ensures) ∙ c .before .before .direction .given .1)
+    (c .if1 .taken)))
 
 returns-3 : tie.Need-returns-3
-returns-3 c = sym (ap asExtended (enumeration-above _ _ _ _ _ _ _ _ (sym (c .before .before .before .before .before .read-word .ensures) ∙ c .before .before .before .direction .given .1) (c .before .if1 .left) (c .if2 .taken)))
+returns-3 c =
+    sym
+    (ap asExtended
+    (enumeration-above _ _ _ _ _ _ _ _
+    (sym (c .before .before .before .before .before .read-word .ensures) ∙ c .before .before .before .direction .given .1) (c .before .if1 .left)
+    (c .if2 .taken)))
 
 read-string-requires : tie.Need-read-string-requires
 read-string-requires c κs = search needs
@@ -41,7 +50,10 @@ returns-4 c =
     let at-if1 = at-if2 .before in
     let at-direction = at-if1 .before .before in
     let at-read-word = at-direction .before .before in
-    sym (ap asExtended (url-string _ _ _ _ _ (sym (at-read-word .read-word .ensures) ∙ at-direction .direction .given .1) (at-if1 .if1 .left) (at-if2 .if2 .left) (sym (at-read-string .read-string .ensures) ∙ c .before .why .given .1)))
+    sym
+    (ap asExtended
+    (url-string _ _ _ _ _ (sym (at-read-word .read-word .ensures) ∙ at-direction .direction .given .1) (at-if1 .if1 .left) (at-if2 .if2 .left)
+    (sym (at-read-string .read-string .ensures) ∙ c .before .why .given .1)))
 
 returns-5 : tie.Need-returns-5
 returns-5 c =
@@ -50,7 +62,10 @@ returns-5 c =
     let at-if1 = at-if2 .before in
     let at-direction = at-if1 .before .before in
     let at-read-word = at-direction .before .before in
-    sym (ap asExtended (url-string _ _ _ _ _ (sym (at-read-word .read-word .ensures) ∙ at-direction .direction .given .1) (at-if1 .if1 .left) (at-if2 .if2 .left) (sym (at-read-string .read-string .ensures) ∙ c .before .url .given .1)))
+    sym
+    (ap asExtended
+    (url-string _ _ _ _ _ (sym (at-read-word .read-word .ensures) ∙ at-direction .direction .given .1) (at-if1 .if1 .left) (at-if2 .if2 .left)
+    (sym (at-read-string .read-string .ensures) ∙ c .before .url .given .1)))
 
 pub read-url-spec : {M : Type 1} → statement M
 read-url-spec =

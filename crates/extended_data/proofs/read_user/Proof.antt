@@ -31,14 +31,20 @@ returns-2 c =
     let at-read-string2 = c .before .before .before in
     let at-src-user = at-read-string2 .before .before in
     let at-read-string = at-src-user .before .before in
-    sym (ap asExtended (user-second _ _ _ _ _ (sym (at-read-string .read-string .ensures) ∙ at-src-user .src-user .given .1) (sym (at-read-string2 .read-string2 .ensures) ∙ c .before .why2 .given .1)))
+    sym
+    (ap asExtended
+    (user-second _ _ _ _ _ (sym (at-read-string .read-string .ensures) ∙ at-src-user .src-user .given .1)
+    (sym (at-read-string2 .read-string2 .ensures) ∙ c .before .why2 .given .1)))
 
 returns-3 : tie.Need-returns-3
 returns-3 c =
     let at-read-string2 = c .before .before .before in
     let at-src-user = at-read-string2 .before .before in
     let at-read-string = at-src-user .before .before in
-    sym (ap asExtended (user-second _ _ _ _ _ (sym (at-read-string .read-string .ensures) ∙ at-src-user .src-user .given .1) (sym (at-read-string2 .read-string2 .ensures) ∙ c .before .dst-user .given .1)))
+    sym
+    (ap asExtended
+    (user-second _ _ _ _ _ (sym (at-read-string .read-string .ensures) ∙ at-src-user .src-user .given .1)
+    (sym (at-read-string2 .read-string2 .ensures) ∙ c .before .dst-user .given .1)))
 
 pub read-user-spec : {M : Type 1} → statement M
 read-user-spec =

@@ -42,7 +42,9 @@ same-length : tie.Need-same-length
 same-length c = c .before .buffer .given
 
 returns-2 : tie.Need-returns-2
-returns-2 c = let k = c .before .before .before .before .before .before .before .before in let j = k .before .before .before .before in let a = j .before .before .before .args in
+returns-2 c =
+    let k = c .before .before .before .before .before .before .before .before in
+    let j = k .before .before .before .before in let a = j .before .before .before .args in
     ipv6-written (a .words .now) (a .buffer .now) (j .if1 .left) (k .before .quad-in .ensures) (k .quad-in2 .ensures)
     (c .before .before .write-ipv6 .ensures)
 

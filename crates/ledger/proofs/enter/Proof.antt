@@ -29,7 +29,8 @@ returns-2 c =
     let at-if1 = c .before .before .before in
     let at-row-for = at-if1 .before in
     let entry = at-row-for .before in
-    one-row (entry .args .t1) (entry .args .x) (search needs) (at-row-for .row-for .result) (at-row-for .row-for .ensures) (at-if1 .if1 .left) (c .before .update .result) (c .before .update .ensures)
+    one-row (entry .args .t1) (entry .args .x) (search needs) (at-row-for .row-for .result) (at-row-for .row-for .ensures) (at-if1 .if1 .left)
+    (c .before .update .result) (c .before .update .ensures)
 
 pub enter-spec : {M : Type 1} → statement M
 enter-spec =

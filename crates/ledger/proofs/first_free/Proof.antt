@@ -33,16 +33,22 @@ loop-again : tie.Need-loop-again Inv-loop μ-loop
 loop-again c =
     let at-loop = c .before .before .before in
     let entry = at-loop .before in
-    let rows = entry .args .t1 in let long : length rows ≡ 64 = search needs in (search needs, sym (first-step isFree rows (at-loop .loop .i) (omega arith) (not-free (getD rows (at-loop .loop .i) freeRow) (c .if1 .taken))) ∙ at-loop .loop .inv .1)
+    let rows = entry .args .t1 in
+    let long : length rows ≡ 64 = search needs in
+    (search needs, sym (first-step isFree rows (at-loop .loop .i) (omega arith) (not-free (getD rows (at-loop .loop .i) freeRow) (c .if1 .taken))) ∙ at-loop .loop .inv .1)
 
 returns : tie.Need-returns Inv-loop μ-loop
 returns c =
     let at-loop = c .before .before .before in
     let entry = at-loop .before in
-    let rows = entry .args .t1 in let long : length rows ≡ 64 = search needs in sym (first-here isFree rows (at-loop .loop .i) (omega arith) (free (getD rows (at-loop .loop .i) freeRow) (c .if1 .left))) ∙ at-loop .loop .inv .1
+    let rows = entry .args .t1 in
+    let long : length rows ≡ 64 = search needs in
+    sym (first-here isFree rows (at-loop .loop .i) (omega arith) (free (getD rows (at-loop .loop .i) freeRow) (c .if1 .left))) ∙ at-loop .loop .inv .1
 
 returns-2 : tie.Need-returns-2 Inv-loop μ-loop
-returns-2 c = let rows = c .before .before .args .t1 in let long : length rows ≡ 64 = search needs in sym (first-end isFree rows (c .before .loop .i) (omega arith)) ∙ c .before .loop .inv .1
+returns-2 c =
+    let rows = c .before .before .args .t1 in
+    let long : length rows ≡ 64 = search needs in sym (first-end isFree rows (c .before .loop .i) (omega arith)) ∙ c .before .loop .inv .1
 
 pub first-free-spec : {M : Type 1} → statement M
 first-free-spec =

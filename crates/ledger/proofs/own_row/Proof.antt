@@ -30,7 +30,10 @@ returns : tie.Need-returns Inv-loop μ-loop
 returns c =
     let at-loop = c .before .before .before .before in
     let entry = at-loop .before in
-    let rows = entry .args .t1 in let long : length rows ≡ 64 = search needs in sym (first-here (isOf (sourceOf (entry .args .x))) rows (at-loop .loop .i) (omega arith) (sym (c .before .is-of .ensures) ∙ c .if1 .taken)) ∙ at-loop .loop .inv .1
+    let rows = entry .args .t1 in
+    let long : length rows ≡ 64 = search needs in
+    sym (first-here (isOf (sourceOf (entry .args .x))) rows (at-loop .loop .i) (omega arith) (sym (c .before .is-of .ensures) ∙ c .if1 .taken))
+    ∙ at-loop .loop .inv .1
 
 add-i : tie.Need-add-i Inv-loop μ-loop
 add-i c = search needs
@@ -42,10 +45,18 @@ loop-again : tie.Need-loop-again Inv-loop μ-loop
 loop-again c =
     let at-loop = c .before .before .before .before in
     let entry = at-loop .before in
-    let rows = entry .args .t1 in let long : length rows ≡ 64 = search needs in (search needs, sym (first-step (isOf (sourceOf (entry .args .x))) rows (at-loop .loop .i) (omega arith) (sym (c .before .is-of .ensures) ∙ c .if1 .left)) ∙ at-loop .loop .inv .1)
+    let rows = entry .args .t1 in
+    let long : length rows ≡ 64 = search needs in (
+      search needs,
+      sym (first-step (isOf (sourceOf (entry .args .x))) rows (at-loop .loop .i) (omega arith) (sym (c .before .is-of .ensures) ∙ c .if1 .left))
+          ∙ at-loop .loop .inv .1,
+    )
 
 returns-2 : tie.Need-returns-2 Inv-loop μ-loop
-returns-2 c = let rows = c .before .before .args .t1 in let long : length rows ≡ 64 = search needs in sym (first-end (isOf (sourceOf (c .before .before .args .x))) rows (c .before .loop .i) (omega arith)) ∙ c .before .loop .inv .1
+returns-2 c =
+    let rows = c .before .before .args .t1 in
+    let long : length rows ≡ 64 = search needs in
+    sym (first-end (isOf (sourceOf (c .before .before .args .x))) rows (c .before .loop .i) (omega arith)) ∙ c .before .loop .inv .1
 
 pub own-row-spec : {M : Type 1} → statement M
 own-row-spec =

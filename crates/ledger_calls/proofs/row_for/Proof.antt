@@ -17,7 +17,8 @@ first-free-requires c κs = search needs
 
 returns-2 : tie.Need-returns-2
 returns-2 c = let a = c .before .before .before .before .args in
-    free-row (rowsIn 64 (a .table .now)) (a .x) (rows-length 64 (a .table .now)) (c .before .before .own-row .result) (c .first-free .result) (c .before .before .own-row .ensures)
+    free-row (rowsIn 64 (a .table .now)) (a .x) (rows-length 64 (a .table .now)) (c .before .before .own-row .result) (c .first-free .result)
+    (c .before .before .own-row .ensures)
     (c .before .if1 .left) (c .first-free .ensures)
 
 pub row-for-spec : {M : Type 1} → statement M

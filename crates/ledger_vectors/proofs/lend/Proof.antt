@@ -109,8 +109,10 @@ module _ {M : Type 1} (𝓤 : URA M) (H : Heap 𝓤) (A : Atoms 𝓤) (W : Given
 
   exits : (r : RowEntered) → Is E.the-row r (entered-val r ∷ []) → r ≡ updated h f → ent 𝓤 (emp 𝓤) (Post (entered-val r))
   exits r r-is e =
-      qed W [] ∵ suffices ! _ (ends-at 𝓤 H A self.ended stayed (self.clauses 𝓤 H A at-mem run) W ((tt, tt, tt, x, at), tt) (entered-val r) r (tt, (tt, tt)) (tt, (tt, tt))) $ says ! e $
-      owned ! E.the-row (Is E.the-row) (LL.makes E.the-type E′.the-plain 𝓤 H A) r _ r-is $ nothing ! $ owned ! F.the-row (Is F.the-row) (LL.makes F.the-type F′.the-plain 𝓤 H A) f _ f-is $ fjoin ! $
+      qed W [] ∵ suffices ! _
+      (ends-at 𝓤 H A self.ended stayed (self.clauses 𝓤 H A at-mem run) W ((tt, tt, tt, x, at), tt) (entered-val r) r (tt, (tt, tt)) (tt, (tt, tt))) $ says ! e $
+      owned ! E.the-row (Is E.the-row) (LL.makes E.the-type E′.the-plain 𝓤 H A) r _ r-is $ nothing ! $ owned ! F.the-row (Is F.the-row)
+      (LL.makes F.the-type F′.the-plain 𝓤 H A) f _ f-is $ fjoin ! $
       owned ! T.the-row (Is T.the-row) (LL.makes T.the-type T′.the-plain 𝓤 H A) h _ h-is $ fjoin ! $ nothing ! $ done !
 
   -- the row lent at (b, 0), for the lifetime ν, under the name δ
@@ -134,7 +136,8 @@ module _ {M : Type 1} (𝓤 : URA M) (H : Heap 𝓤) (A : Atoms 𝓤) (W : Given
     walk =
         qed W (‵ ftrue ∷ ‵ (owns (T.the-row ∷ F.the-row ∷ []) x at) ∷ []) ∵ keep ! [] $ enter ! C Λ code.function (row-val h ∷ flow-val f ∷ []) _ $
         alloc1 ! (λ l₀. alloc1 ! (λ l₁. alloc1 ! (λ l₂. alloc1 ! (λ l₃. alloc1 ! (λ l₄. alloc1 ! (λ l₅. alloc1 ! (λ l₆. alloc0 ! $ params1 ! $
-        pass1 ! (init ! 10 refl (LL.lawful T.the-type T′.the-laws 𝓤 H A W .typed h _ h-is .0)) $ pass1 ! (init ! 8 refl (LL.lawful F.the-type F′.the-laws 𝓤 H A W .typed f _ f-is .0)) $ pass0 ! $
+        pass1 ! (init ! 10 refl (LL.lawful T.the-type T′.the-laws 𝓤 H A W .typed h _ h-is .0)) $ pass1 !
+        (init ! 8 refl (LL.lawful F.the-type F′.the-laws 𝓤 H A W .typed f _ f-is .0)) $ pass0 ! $
         -- [room for _6; …; room for _5; …; room for _4; …; room for _3; …; _2; …; _1; …; room for _0; …]
         assigns ! (of-opd ! (load ! (from ! (stop !)) (look ! 10 refl))) (from ! (stop !)) (init ! 6 refl (LL.lawful T.the-type T′.the-laws 𝓤 H A W .typed h _ h-is .0)) $
         assigns ! (addr ! (from ! (stop !))) (from ! (stop !)) (init ! 2 refl (tt, tt)) $
@@ -151,16 +154,21 @@ module _ {M : Type 1} (𝓤 : URA M) (H : Heap 𝓤) (A : Atoms 𝓤) (W : Given
         split ! $ move ! (1 ∷ []) $ heard ! ((n ≡ updated h f .answer) × (zs .0 ≡ updated h f .row)) (λ e. fsplit ! $
         move ! (2 ∷ []) $ split ! $ move ! (1 ∷ []) $ peeks ! An.the-row (Is An.the-row) (shows 𝓤 H A An.the-row) n (w ∷ []) (λ is. drop ! $
         -- [the tokens; the last value; …; the lender's part; room for _6; …; _5; …; room for _4; …; what frees _3; _2; …; _1; …; room for _0; …]
-        land ! (from ! (stop !)) (init ! 8 refl (EL.lawful An.the-type An′.the-laws 𝓤 H A W tt .typed n _ is .0)) $ rewrite ! 8 (λ (u : Val). ‵ (fat fullShare An′.mir l₄ 0 u)) (ap only (EL.tells An.the-type An′.the-laws n (w ∷ []) is)) refl $
+        land ! (from ! (stop !)) (init ! 8 refl (EL.lawful An.the-type An′.the-laws 𝓤 H A W tt .typed n _ is .0)) $ rewrite ! 8
+        (λ (u : Val). ‵ (fat fullShare An′.mir l₄ 0 u)) (ap only (EL.tells An.the-type An′.the-laws n (w ∷ []) is)) refl $
         -- the lifetime is ended, and the row comes back
-        split ! $ lft-end ! tt $ move ! (0 ∷ 4 ∷ 2 ∷ []) $ use3 W (later (‵ (partAt T.the-row fullShare (zs .0) l₃ 0))) (ref-back 𝓤 H A W T.the-row (ν ∷ []) δ (zs .0) l₃ 0) $ await ! tt $
+        split ! $ lft-end ! tt $ move ! (0 ∷ 4 ∷ 2 ∷ []) $ use3 W (later (‵ (partAt T.the-row fullShare (zs .0) l₃ 0)))
+        (ref-back 𝓤 H A W T.the-row (ν ∷ []) δ (zs .0) l₃ 0) $ await ! tt $
         use1 W (given (Is T.the-row (zs .0) (row-val (zs .0) ∷ [])) (‵ (cellAt fullShare (T.the-row .mir) (row-val (zs .0) ∷ []) l₃ 0))) (lies-out 𝓤 H A W T.the-type T′.the-laws (zs .0) l₃ 0) $ learn ! (λ z-is.
         use1 W (‵ (fat fullShare T′.mir l₃ 0 (row-val (zs .0)))) (W .laws .raw-at fullShare T′.mir l₃ 0 (row-val (zs .0))) $
         -- [_3; …; …; room for _6; …; _5; …; _4; …; what frees _3; _2; …; _1; …; room for _0; …]
-        assigns ! (of-opd ! (load ! (from ! (stop !)) (look ! 0 refl))) (from ! (stop !)) (init ! 3 refl (LL.lawful T.the-type T′.the-laws 𝓤 H A W .typed (zs .0) _ z-is .0)) $
-        assigns ! (agg ! (and-then ! (load ! (from ! (stop !)) (look ! 7 refl)) (and-then ! (load ! (from ! (stop !)) (look ! 3 refl)) (no-more !)))) (from ! (stop !)) (init ! 14 refl (LL.lawful E.the-type E′.the-laws 𝓤 H A W .typed (made n (zs .0)) _ (made-is n (zs .0) (told n w is) z-is) .0)) $
+        assigns ! (of-opd ! (load ! (from ! (stop !)) (look ! 0 refl))) (from ! (stop !))
+        (init ! 3 refl (LL.lawful T.the-type T′.the-laws 𝓤 H A W .typed (zs .0) _ z-is .0)) $
+        assigns ! (agg ! (and-then ! (load ! (from ! (stop !)) (look ! 7 refl)) (and-then ! (load ! (from ! (stop !)) (look ! 3 refl)) (no-more !))))
+        (from ! (stop !)) (init ! 14 refl (LL.lawful E.the-type E′.the-laws 𝓤 H A W .typed (made n (zs .0)) _ (made-is n (zs .0) (told n w is) z-is) .0)) $
         returns ! (look ! 14 refl) $ forget ! 0 refl $ forget ! 3 refl $ forget ! 5 refl $ forget ! 7 refl $ forget ! 10 refl $ forget ! 12 refl $ forget ! 14 refl $
-        move ! (14 ∷ 15 ∷ []) $ free1 ! $ move ! (12 ∷ 13 ∷ []) $ free1 ! $ move ! (10 ∷ 11 ∷ []) $ free1 ! $ move ! (0 ∷ 9 ∷ []) $ free1 ! $ move ! (6 ∷ 7 ∷ []) $ free1 ! $ move ! (4 ∷ 5 ∷ []) $ free1 ! $ move ! (2 ∷ 3 ∷ []) $ free1 ! $ free0 ! $
+        move ! (14 ∷ 15 ∷ []) $ free1 ! $ move ! (12 ∷ 13 ∷ []) $ free1 ! $ move ! (10 ∷ 11 ∷ []) $ free1 ! $ move ! (0 ∷ 9 ∷ []) $ free1 ! $ move !
+        (6 ∷ 7 ∷ []) $ free1 ! $ move ! (4 ∷ 5 ∷ []) $ free1 ! $ move ! (2 ∷ 3 ∷ []) $ free1 ! $ free0 ! $
         keep ! [] $ by ! (exits (made n (zs .0)) (made-is n (zs .0) (told n w is) z-is) (made-of n (zs .0) e)))))))))))))))))
 
 module _ {M : Type 1} (𝓤 : URA M) (H : Heap 𝓤) (A : Atoms 𝓤) (W : Given 𝓤 H A) (mem : Memory → SProp 𝓤) (run : Routine → Fun 𝓤) where
@@ -171,7 +179,9 @@ module _ {M : Type 1} (𝓤 : URA M) (H : Heap 𝓤) (A : Atoms 𝓤) (W : Given
 meets : {M : Type 1} (𝓤 : URA M) (H : Heap 𝓤) (A : Atoms 𝓤) → Given 𝓤 H A → (mem : Memory → SProp 𝓤) (run : Routine → Fun 𝓤) (𝓣 : Tables 𝓤 H) → Triple 𝓤 (𝓣 .C #callee) (Callee 𝓤 H A mem run)
     → Meets 𝓤 H A self.signature (WpFn 𝓤 H (𝓣 .C) (𝓣 .Λ) code.function) (self.spec 𝓤 H A mem run)
 meets 𝓤 H A W mem run 𝓣 known =
-    walk-meets 𝓤 H A self.ended stayed W (goes-none 𝓤 H A W 0 (λ _. T.the-row) yes (λ κs x f. refl), (goes-none 𝓤 H A W 0 (λ _. F.the-row) yes (λ κs x f. refl), tt)) (self.clauses 𝓤 H A mem run)
+    walk-meets 𝓤 H A self.ended stayed W
+    (goes-none 𝓤 H A W 0 (λ _. T.the-row) yes (λ κs x f. refl), (goes-none 𝓤 H A W 0 (λ _. F.the-row) yes (λ κs x f. refl), tt))
+    (self.clauses 𝓤 H A mem run)
     (WpFn 𝓤 H (𝓣 .C) (𝓣 .Λ) code.function) (WpFn-mono 𝓤 H (W .laws) 𝓣 code.function) (walks 𝓤 H A W mem run (𝓣 .C) (𝓣 .Λ) (fmOf 𝓤 H (W .laws) 𝓣) known)
 
 pub lend-spec : {M : Type 1} → stated.statement M

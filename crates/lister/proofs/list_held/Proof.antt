@@ -52,24 +52,11 @@ returns c =
 enum-told : tie.Need-enum-told Inv-loop μ-loop
 enum-told c = search needs
 
-enum-told-2 : tie.Need-enum-told-2 Inv-loop μ-loop
-enum-told-2 c = search needs
-
 same-length-2 : tie.Need-same-length-2 Inv-loop μ-loop
 same-length-2 c = search needs
 
 returns-2 : tie.Need-returns-2 Inv-loop μ-loop
 returns-2 c =
-    let at-list-records = c .before .before .before .before .before .before .before .before .before in
-    let at-loop = at-list-records .before .before .before .before in
-    let entry = at-loop .before .before .before in
-    listed-part _ (entry .args .s .now) _ (at-loop .loop .listed) _ _ (at-loop .loop .inv .1) (at-list-records .list-records .ensures)
-
-same-length-3 : tie.Need-same-length-3 Inv-loop μ-loop
-same-length-3 c = search needs
-
-returns-3 : tie.Need-returns-3 Inv-loop μ-loop
-returns-3 c =
     let at-list-records = c .before .before .before .before .before .before .before .before in
     let at-loop = at-list-records .before .before .before .before in
     let entry = at-loop .before .before .before in
@@ -88,11 +75,11 @@ loop-again c =
     let entry = at-loop .before .before .before in
     let h = listed-part _ (entry .args .s .now) _ (at-loop .loop .listed) _ _ (at-loop .loop .inv .1) (at-list-records .list-records .ensures) in (search needs, h)
 
-same-length-4 : tie.Need-same-length-4 Inv-loop μ-loop
-same-length-4 c = search needs
+same-length-3 : tie.Need-same-length-3 Inv-loop μ-loop
+same-length-3 c = search needs
 
-returns-4 : tie.Need-returns-4 Inv-loop μ-loop
-returns-4 c = search needs
+returns-3 : tie.Need-returns-3 Inv-loop μ-loop
+returns-3 c = search needs
 
 pub list-held-spec : {M : Type 1} → statement M
 list-held-spec =
@@ -110,13 +97,10 @@ list-held-spec =
     same-length
     returns
     enum-told
-    enum-told-2
     same-length-2
     returns-2
-    same-length-3
-    returns-3
     sub-turns
     loop-less
     loop-again
-    same-length-4
-    returns-4)
+    same-length-3
+    returns-3)

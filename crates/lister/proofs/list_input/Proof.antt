@@ -64,6 +64,9 @@ same-length-6 c = search needs
 returns-3 : tie.Need-returns-3 Inv-loop μ-loop
 returns-3 c = search needs
 
+enum-told : tie.Need-enum-told Inv-loop μ-loop
+enum-told c = search needs
+
 finish-requires-2 : tie.Need-finish-requires-2 Inv-loop μ-loop
 finish-requires-2 c κs = search needs
 
@@ -123,6 +126,7 @@ list-input-spec =
     same-length-5
     same-length-6
     returns-3
+    enum-told
     finish-requires-2
     same-length-7
     same-length-8

@@ -64,7 +64,8 @@ returns-5 c =
     let at-if4 = at-wide .before .before in
     let at-if3 = at-if4 .before .before in
     let start = at-if3 .before .before .before .before .before in
-    frame-long (start .args .s .now) (start .args .at) (omega arith) _ _ (at-if3 .if3 .left) (at-if4 .if4 .left) (at-wide .wide .ensures .0) (c .before .wide2 .ensures .0) (c .if5 .taken)
+    frame-long (start .args .s .now) (start .args .at) (omega arith) _ _ (at-if3 .if3 .left) (at-if4 .if4 .left) (at-wide .wide .ensures .0)
+    (c .before .wide2 .ensures .0) (c .if5 .taken)
 
 sub-if6 : tie.Need-sub-if6
 sub-if6 c = search needs
@@ -78,7 +79,8 @@ returns-6 c =
     let at-if4 = at-wide .before .before in
     let at-if3 = at-if4 .before .before in
     let start = at-if3 .before .before .before .before .before in
-    frame-cut (start .args .s .now) (start .args .at) (omega arith) _ _ (at-if3 .if3 .left) (at-if4 .if4 .left) (at-wide .wide .ensures .0) (c .before .before .wide2 .ensures .0) (c .before .if5 .left) (omega arith)
+    frame-cut (start .args .s .now) (start .args .at) (omega arith) _ _ (at-if3 .if3 .left) (at-if4 .if4 .left) (at-wide .wide .ensures .0)
+    (c .before .before .wide2 .ensures .0) (c .before .if5 .left) (omega arith)
 
 returns-7 : tie.Need-returns-7
 returns-7 c =
@@ -86,7 +88,8 @@ returns-7 c =
     let at-if4 = at-wide .before .before in
     let at-if3 = at-if4 .before .before in
     let start = at-if3 .before .before .before .before .before in
-    frame-whole (start .args .s .now) (start .args .at) (omega arith) _ _ (at-if3 .if3 .left) (at-if4 .if4 .left) (at-wide .wide .ensures .0) (c .before .before .wide2 .ensures .0) (c .before .if5 .left) (omega arith)
+    frame-whole (start .args .s .now) (start .args .at) (omega arith) _ _ (at-if3 .if3 .left) (at-if4 .if4 .left) (at-wide .wide .ensures .0)
+    (c .before .before .wide2 .ensures .0) (c .before .if5 .left) (omega arith)
 
 pub frame-at-spec : {M : Type 1} → statement M
 frame-at-spec =

@@ -58,7 +58,8 @@ returns c =
     let at-list-part = c .before .before .before .before .before in
     let at-index = at-list-part .before .before .before .before in
     let start = at-index .before .before .before in
-    step-whole _ _ _ (start .args .p) _ (start .args .n) _ _ _ NoRoom (c .stopped .ensures) (start .pre .0) refl (at-index .wrapping-add-u64 .ensures) (at-list-part .list-part .ensures) (c .before .enum-told .given .1)
+    step-whole _ _ _ (start .args .p) _ (start .args .n) _ _ _ NoRoom (c .stopped .ensures) (start .pre .0) refl (at-index .wrapping-add-u64 .ensures)
+    (at-list-part .list-part .ensures) (c .before .enum-told .given .1)
 
 same-length-2 : tie.Need-same-length-2
 same-length-2 c = search needs
@@ -69,7 +70,8 @@ returns-2 c =
     let at-list-part = at-out .before .before .before .before in
     let at-index = at-list-part .before .before .before .before in
     let start = at-index .before .before .before in
-    step-whole _ _ _ (start .args .p) _ (start .args .n) _ _ _ _ (rw (c .count-refused .ensures)) (start .pre .0) refl (at-index .wrapping-add-u64 .ensures) (at-list-part .list-part .ensures) (at-out .out .given .1)
+    step-whole _ _ _ (start .args .p) _ (start .args .n) _ _ _ _ (rw (c .count-refused .ensures)) (start .pre .0) refl
+    (at-index .wrapping-add-u64 .ensures) (at-list-part .list-part .ensures) (at-out .out .given .1)
 
 same-length-3 : tie.Need-same-length-3
 same-length-3 c = search needs
@@ -80,7 +82,8 @@ returns-3 c =
     let at-list-part = at-out2 .before .before .before .before in
     let at-index = at-list-part .before .before .before .before in
     let start = at-index .before .before .before in
-    step-whole _ _ _ (start .args .p) _ (start .args .n) _ _ _ _ (rw (c .count-accepted .ensures)) (start .pre .0) refl (at-index .wrapping-add-u64 .ensures) (at-list-part .list-part .ensures) (at-out2 .out2 .given .1)
+    step-whole _ _ _ (start .args .p) _ (start .args .n) _ _ _ _ (rw (c .count-accepted .ensures)) (start .pre .0) refl
+    (at-index .wrapping-add-u64 .ensures) (at-list-part .list-part .ensures) (at-out2 .out2 .given .1)
 
 pub list-whole-spec : {M : Type 1} → statement M
 list-whole-spec =

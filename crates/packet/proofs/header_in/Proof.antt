@@ -15,7 +15,9 @@ no-view-requires c κs = search needs
 returns : tie.Need-returns
 returns c =
     let entry = c .before .before .before .before in
-    c .no-view .ensures ∙ nothing-there (entry .args .protocol) ∙ sym (ap (headerView (entry .args .protocol)) (text-beyond (now (entry .args .s)) (entry .args .t) (c .before .if1 .taken)))
+    c .no-view .ensures
+    ∙ nothing-there (entry .args .protocol)
+    ∙ sym (ap (headerView (entry .args .protocol)) (text-beyond (now (entry .args .s)) (entry .args .t) (c .before .if1 .taken)))
 
 sub-if2 : tie.Need-sub-if2
 sub-if2 c = search needs
@@ -36,7 +38,10 @@ returns-2 : tie.Need-returns-2
 returns-2 c =
     let at-if1 = c .before .before .before in
     let entry = at-if1 .before .before .before in
-    c .header-view .ensures ∙ ap (headerView (entry .args .protocol)) (to-end (now (entry .args .s)) (entry .args .t .at) ∙ text-rest (now (entry .args .s)) (entry .args .t) (at-if1 .if1 .left) (c .before .before .if2 .taken))
+    c .header-view .ensures
+    ∙ ap (headerView (entry .args .protocol))
+    (to-end (now (entry .args .s)) (entry .args .t .at)
+    ∙ text-rest (now (entry .args .s)) (entry .args .t) (at-if1 .if1 .left) (c .before .before .if2 .taken))
 
 add-header-view : tie.Need-add-header-view
 add-header-view c = search needs

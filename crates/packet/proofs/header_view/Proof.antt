@@ -27,7 +27,10 @@ returns c =
     let at-holds-ipv4 = c .before .before .before in
     let at-if1 = at-holds-ipv4 .before in
     let entry = at-if1 .before .before in
-    c .ipv4-view .ensures ∙ ap ipv4View (to-end (now (entry .args .x)) 14) ∙ ethernet-ipv4 (now (entry .args .x)) (entry .args .protocol) (at-if1 .if1 .taken) (sym (at-holds-ipv4 .holds-ipv4 .ensures) ∙ c .before .before .if2 .taken)
+    c .ipv4-view .ensures
+    ∙ ap ipv4View (to-end (now (entry .args .x)) 14)
+    ∙ ethernet-ipv4 (now (entry .args .x)) (entry .args .protocol) (at-if1 .if1 .taken)
+    (sym (at-holds-ipv4 .holds-ipv4 .ensures) ∙ c .before .before .if2 .taken)
 
 no-view-requires : tie.Need-no-view-requires
 no-view-requires c κs = search needs
@@ -36,7 +39,9 @@ returns-2 : tie.Need-returns-2
 returns-2 c =
     let at-if1 = c .before .before .before in
     let entry = at-if1 .before .before in
-    c .no-view .ensures ∙ ethernet-other (now (entry .args .x)) (entry .args .protocol) (at-if1 .if1 .taken) (sym (c .before .before .holds-ipv4 .ensures) ∙ c .before .if2 .left)
+    c .no-view .ensures
+    ∙ ethernet-other (now (entry .args .x)) (entry .args .protocol) (at-if1 .if1 .taken)
+    (sym (c .before .before .holds-ipv4 .ensures) ∙ c .before .if2 .left)
 
 ipv4-view-requires-2 : tie.Need-ipv4-view-requires-2
 ipv4-view-requires-2 c κs = search needs

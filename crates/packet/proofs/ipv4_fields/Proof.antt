@@ -56,7 +56,8 @@ returns c =
     let at-size-of = at-ports-behind .before in
     let at-wide = at-size-of .before .before in
     let entry = at-wide .before .before .before in
-    ipv4-seen (now (entry .args .x)) (entry .pre .2) _ _ _ _ _ (at-word-of .word-of .ensures) (c .word-of2 .ensures) (at-wide .wide .ensures) (at-size-of .size-of .ensures) (at-ports-behind .ports-behind .ensures)
+    ipv4-seen (now (entry .args .x)) (entry .pre .2) _ _ _ _ _ (at-word-of .word-of .ensures) (c .word-of2 .ensures) (at-wide .wide .ensures)
+    (at-size-of .size-of .ensures) (at-ports-behind .ports-behind .ensures)
 
 pub ipv4-fields-spec : {M : Type 1} → statement M
 ipv4-fields-spec =

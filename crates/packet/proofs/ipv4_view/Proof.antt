@@ -10,8 +10,11 @@ is-ipv4-requires c κs = search needs
 
 ipv4-fields-requires : tie.Need-ipv4-fields-requires
 ipv4-fields-requires c κs =
-    let entry = c .before .before .before in
-    (ipv4-long (now (entry .args .x)) (sym (c .before .is-ipv4 .ensures) ∙ c .if1 .taken), ipv4-header (now (entry .args .x)) (sym (c .before .is-ipv4 .ensures) ∙ c .if1 .taken), sym (c .before .is-ipv4 .ensures) ∙ c .if1 .taken)
+    let entry = c .before .before .before in (
+      ipv4-long (now (entry .args .x)) (sym (c .before .is-ipv4 .ensures) ∙ c .if1 .taken),
+      ipv4-header (now (entry .args .x)) (sym (c .before .is-ipv4 .ensures) ∙ c .if1 .taken),
+      sym (c .before .is-ipv4 .ensures) ∙ c .if1 .taken,
+    )
 
 returns : tie.Need-returns
 returns c = c .ipv4-fields .ensures

@@ -46,12 +46,18 @@ returns c =
     let at-if1 = at-if2 .before in
     let at-has-ports = at-if1 .before in
     let entry = at-has-ports .before .before in
-    let h = at-if2 .if2 .taken in let l = entry .pre in ports-there (now (entry .args .x)) (entry .args .protocol) (entry .args .size) (sym (at-has-ports .has-ports .ensures) ∙ at-if1 .if1 .taken) (omega arith) _ _ (at-pair-of .pair-of .ensures) (c .pair-of2 .ensures)
+    let h = at-if2 .if2 .taken in
+    let l = entry .pre in
+    ports-there (now (entry .args .x)) (entry .args .protocol) (entry .args .size) (sym (at-has-ports .has-ports .ensures) ∙ at-if1 .if1 .taken)
+    (omega arith) _ _ (at-pair-of .pair-of .ensures) (c .pair-of2 .ensures)
 
 returns-2 : tie.Need-returns-2
 returns-2 c =
     let entry = c .before .before .before .before in
-    let h = c .if2 .left in let l = entry .pre in ports-cut (now (entry .args .x)) (entry .args .protocol) (entry .args .size) (sym (c .before .before .has-ports .ensures) ∙ c .before .if1 .taken) (omega arith)
+    let h = c .if2 .left in
+    let l = entry .pre in
+    ports-cut (now (entry .args .x)) (entry .args .protocol) (entry .args .size) (sym (c .before .before .has-ports .ensures) ∙ c .before .if1 .taken)
+    (omega arith)
 
 returns-3 : tie.Need-returns-3
 returns-3 c =

@@ -18,10 +18,17 @@ returns : tie.Need-returns
 returns c = sym (passed-view _ _ _ _ _ (header-cut _ _ _ (sym (c .before .before .read-word .ensures) ∙ c .enum-told .given .1)))
 
 returns-2 : tie.Need-returns-2
-returns-2 c = sym (passed-view _ _ _ _ _ (header-zero _ _ _ _ (sym (c .before .before .before .before .read-word .ensures) ∙ c .before .before .protocol .given .1) (c .if1 .taken)))
+returns-2 c =
+    sym
+    (passed-view _ _ _ _ _
+    (header-zero _ _ _ _ (sym (c .before .before .before .before .read-word .ensures) ∙ c .before .before .protocol .given .1) (c .if1 .taken)))
 
 returns-3 : tie.Need-returns-3
-returns-3 c = sym (passed-view _ _ _ _ _ (header-over _ _ _ _ (sym (c .before .before .before .before .before .read-word .ensures) ∙ c .before .before .before .protocol .given .1) (c .before .if1 .left) (c .if2 .taken)))
+returns-3 c =
+    sym
+    (passed-view _ _ _ _ _
+    (header-over _ _ _ _ (sym (c .before .before .before .before .before .read-word .ensures) ∙ c .before .before .before .protocol .given .1)
+    (c .before .if1 .left) (c .if2 .taken)))
 
 read-word-requires-2 : tie.Need-read-word-requires-2
 read-word-requires-2 c κs = search needs
@@ -38,7 +45,10 @@ returns-4 c =
     let at-if1 = at-if2 .before in
     let at-protocol = at-if1 .before .before in
     let at-read-word = at-protocol .before .before in
-    sym (passed-view _ _ _ _ _ (header-frame-cut _ _ _ _ (sym (at-read-word .read-word .ensures) ∙ at-protocol .protocol .given .1) (at-if1 .if1 .left) (at-if2 .if2 .left) _ (sym (c .before .before .read-word2 .ensures) ∙ c .enum-told2 .given .1)))
+    sym
+    (passed-view _ _ _ _ _
+    (header-frame-cut _ _ _ _ (sym (at-read-word .read-word .ensures) ∙ at-protocol .protocol .given .1) (at-if1 .if1 .left) (at-if2 .if2 .left) _
+    (sym (c .before .before .read-word2 .ensures) ∙ c .enum-told2 .given .1)))
 
 read-word-requires-3 : tie.Need-read-word-requires-3
 read-word-requires-3 c κs = search needs
@@ -57,7 +67,11 @@ returns-5 c =
     let at-if1 = at-if2 .before in
     let at-protocol = at-if1 .before .before in
     let at-read-word = at-protocol .before .before in
-    sym (passed-view _ _ _ _ _ (header-length-cut _ _ _ _ (sym (at-read-word .read-word .ensures) ∙ at-protocol .protocol .given .1) (at-if1 .if1 .left) (at-if2 .if2 .left) _ _ (sym (at-read-word2 .read-word2 .ensures) ∙ at-length-at .length-at .given .1) _ (sym (c .before .before .read-word3 .ensures) ∙ c .enum-told3 .given .1)))
+    sym
+    (passed-view _ _ _ _ _
+    (header-length-cut _ _ _ _ (sym (at-read-word .read-word .ensures) ∙ at-protocol .protocol .given .1) (at-if1 .if1 .left) (at-if2 .if2 .left) _ _
+    (sym (at-read-word2 .read-word2 .ensures) ∙ at-length-at .length-at .given .1) _
+    (sym (c .before .before .read-word3 .ensures) ∙ c .enum-told3 .given .1)))
 
 pass-octets-requires : tie.Need-pass-octets-requires
 pass-octets-requires c κs = search needs
@@ -72,7 +86,11 @@ returns-6 c =
     let at-if1 = at-if2 .before in
     let at-protocol = at-if1 .before .before in
     let at-read-word = at-protocol .before .before in
-    c .pass-octets .ensures ∙ sym (header-passed _ _ _ _ (sym (at-read-word .read-word .ensures) ∙ at-protocol .protocol .given .1) (at-if1 .if1 .left) (at-if2 .if2 .left) _ _ (sym (at-read-word2 .read-word2 .ensures) ∙ at-length-at .length-at .given .1) _ _ (sym (at-read-word3 .read-word3 .ensures) ∙ at-length .length .given .1) (c .before .if3 .taken))
+    c .pass-octets .ensures
+    ∙ sym
+    (header-passed _ _ _ _ (sym (at-read-word .read-word .ensures) ∙ at-protocol .protocol .given .1) (at-if1 .if1 .left) (at-if2 .if2 .left) _ _
+    (sym (at-read-word2 .read-word2 .ensures) ∙ at-length-at .length-at .given .1) _ _
+    (sym (at-read-word3 .read-word3 .ensures) ∙ at-length .length .given .1) (c .before .if3 .taken))
 
 returns-7 : tie.Need-returns-7
 returns-7 c =
@@ -83,7 +101,11 @@ returns-7 c =
     let at-if1 = at-if2 .before in
     let at-protocol = at-if1 .before .before in
     let at-read-word = at-protocol .before .before in
-    sym (passed-view _ _ _ _ _ (header-long _ _ _ _ (sym (at-read-word .read-word .ensures) ∙ at-protocol .protocol .given .1) (at-if1 .if1 .left) (at-if2 .if2 .left) _ _ (sym (at-read-word2 .read-word2 .ensures) ∙ at-length-at .length-at .given .1) _ _ (sym (at-read-word3 .read-word3 .ensures) ∙ c .before .before .length .given .1) (c .if3 .left)))
+    sym
+    (passed-view _ _ _ _ _
+    (header-long _ _ _ _ (sym (at-read-word .read-word .ensures) ∙ at-protocol .protocol .given .1) (at-if1 .if1 .left) (at-if2 .if2 .left) _ _
+    (sym (at-read-word2 .read-word2 .ensures) ∙ at-length-at .length-at .given .1) _ _
+    (sym (at-read-word3 .read-word3 .ensures) ∙ c .before .before .length .given .1) (c .if3 .left)))
 
 pub pass-header-spec : {M : Type 1} → statement M
 pass-header-spec =

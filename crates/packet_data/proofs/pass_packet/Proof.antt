@@ -33,16 +33,34 @@ pass-run-requires-2 : tie.Need-pass-run-requires-2
 pass-run-requires-2 c κs = search needs
 
 returns-2 : tie.Need-returns-2
-returns-2 c = c .pass-header .ensures ∙ sym (passed-arm _ _ _ _ _ _ _ (sym (c .before .before .before .before .before .read-word .ensures) ∙ c .before .before .before .kind .given .1) 1 (c .before .match2 .keys1) refl)
+returns-2 c =
+    c .pass-header .ensures
+    ∙ sym
+    (passed-arm _ _ _ _ _ _ _ (sym (c .before .before .before .before .before .read-word .ensures) ∙ c .before .before .before .kind .given .1) 1
+    (c .before .match2 .keys1) refl)
 
 returns-3 : tie.Need-returns-3
-returns-3 c = sym (passed-arm _ _ _ _ _ _ _ (sym (c .before .before .before .before .before .before .read-word .ensures) ∙ c .before .before .before .before .kind .given .1) 2 (c .before .before .match2 .keys2) refl ∙ passed-run _ _ _ _ _ refl (sym (c .pass-run .ensures)))
+returns-3 c =
+    sym
+    (passed-arm _ _ _ _ _ _ _
+    (sym (c .before .before .before .before .before .before .read-word .ensures) ∙ c .before .before .before .before .kind .given .1) 2
+    (c .before .before .match2 .keys2) refl
+    ∙ passed-run _ _ _ _ _ refl (sym (c .pass-run .ensures)))
 
 returns-4 : tie.Need-returns-4
-returns-4 c = sym (passed-arm _ _ _ _ _ _ _ (sym (c .before .before .before .before .before .before .read-word .ensures) ∙ c .before .before .before .before .kind .given .1) 3 (c .before .before .match2 .keys3) refl ∙ passed-run _ _ _ _ _ refl (sym (c .pass-run2 .ensures)))
+returns-4 c =
+    sym
+    (passed-arm _ _ _ _ _ _ _
+    (sym (c .before .before .before .before .before .before .read-word .ensures) ∙ c .before .before .before .before .kind .given .1) 3
+    (c .before .before .match2 .keys3) refl
+    ∙ passed-run _ _ _ _ _ refl (sym (c .pass-run2 .ensures)))
 
 returns-5 : tie.Need-returns-5
-returns-5 c = sym (passed-view _ _ _ _ _ (packet-other _ _ _ _ (sym (c .before .before .before .before .read-word .ensures) ∙ c .before .before .kind .given .1) (c .match2 .rest .0 .0 .1) (c .match2 .rest .0 .1) (c .match2 .rest .1)))
+returns-5 c =
+    sym
+    (passed-view _ _ _ _ _
+    (packet-other _ _ _ _ (sym (c .before .before .before .before .read-word .ensures) ∙ c .before .before .kind .given .1) (c .match2 .rest .0 .0 .1)
+    (c .match2 .rest .0 .1) (c .match2 .rest .1)))
 
 pub pass-packet-spec : {M : Type 1} → statement M
 pass-packet-spec =

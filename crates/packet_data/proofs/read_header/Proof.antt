@@ -18,10 +18,17 @@ returns : tie.Need-returns
 returns c = sym (ap asPacket (header-cut _ _ _ (sym (c .before .before .read-word .ensures) ∙ c .enum-told .given .1)))
 
 returns-2 : tie.Need-returns-2
-returns-2 c = sym (ap asPacket (header-zero _ _ _ _ (sym (c .before .before .before .before .read-word .ensures) ∙ c .before .before .protocol .given .1) (c .if1 .taken)))
+returns-2 c =
+    sym
+    (ap asPacket
+    (header-zero _ _ _ _ (sym (c .before .before .before .before .read-word .ensures) ∙ c .before .before .protocol .given .1) (c .if1 .taken)))
 
 returns-3 : tie.Need-returns-3
-returns-3 c = sym (ap asPacket (header-over _ _ _ _ (sym (c .before .before .before .before .before .read-word .ensures) ∙ c .before .before .before .protocol .given .1) (c .before .if1 .left) (c .if2 .taken)))
+returns-3 c =
+    sym
+    (ap asPacket
+    (header-over _ _ _ _ (sym (c .before .before .before .before .before .read-word .ensures) ∙ c .before .before .before .protocol .given .1)
+    (c .before .if1 .left) (c .if2 .taken)))
 
 read-word-requires-2 : tie.Need-read-word-requires-2
 read-word-requires-2 c κs = search needs
@@ -38,7 +45,10 @@ returns-4 c =
     let at-if1 = at-if2 .before in
     let at-protocol = at-if1 .before .before in
     let at-read-word = at-protocol .before .before in
-    sym (ap asPacket (header-frame-cut _ _ _ _ (sym (at-read-word .read-word .ensures) ∙ at-protocol .protocol .given .1) (at-if1 .if1 .left) (at-if2 .if2 .left) _ (sym (c .before .before .read-word2 .ensures) ∙ c .enum-told2 .given .1)))
+    sym
+    (ap asPacket
+    (header-frame-cut _ _ _ _ (sym (at-read-word .read-word .ensures) ∙ at-protocol .protocol .given .1) (at-if1 .if1 .left) (at-if2 .if2 .left) _
+    (sym (c .before .before .read-word2 .ensures) ∙ c .enum-told2 .given .1)))
 
 read-word-requires-3 : tie.Need-read-word-requires-3
 read-word-requires-3 c κs = search needs
@@ -57,7 +67,11 @@ returns-5 c =
     let at-if1 = at-if2 .before in
     let at-protocol = at-if1 .before .before in
     let at-read-word = at-protocol .before .before in
-    sym (ap asPacket (header-length-cut _ _ _ _ (sym (at-read-word .read-word .ensures) ∙ at-protocol .protocol .given .1) (at-if1 .if1 .left) (at-if2 .if2 .left) _ _ (sym (at-read-word2 .read-word2 .ensures) ∙ at-frame-length .frame-length .given .1) _ (sym (c .before .before .read-word3 .ensures) ∙ c .enum-told3 .given .1)))
+    sym
+    (ap asPacket
+    (header-length-cut _ _ _ _ (sym (at-read-word .read-word .ensures) ∙ at-protocol .protocol .given .1) (at-if1 .if1 .left) (at-if2 .if2 .left) _ _
+    (sym (at-read-word2 .read-word2 .ensures) ∙ at-frame-length .frame-length .given .1) _
+    (sym (c .before .before .read-word3 .ensures) ∙ c .enum-told3 .given .1)))
 
 returns-6 : tie.Need-returns-6
 returns-6 c =
@@ -68,7 +82,11 @@ returns-6 c =
     let at-if1 = at-if2 .before in
     let at-protocol = at-if1 .before .before in
     let at-read-word = at-protocol .before .before in
-    sym (ap asPacket (header-long _ _ _ _ (sym (at-read-word .read-word .ensures) ∙ at-protocol .protocol .given .1) (at-if1 .if1 .left) (at-if2 .if2 .left) _ _ (sym (at-read-word2 .read-word2 .ensures) ∙ at-frame-length .frame-length .given .1) _ _ (sym (at-read-word3 .read-word3 .ensures) ∙ c .before .before .length .given .1) (c .if3 .taken)))
+    sym
+    (ap asPacket
+    (header-long _ _ _ _ (sym (at-read-word .read-word .ensures) ∙ at-protocol .protocol .given .1) (at-if1 .if1 .left) (at-if2 .if2 .left) _ _
+    (sym (at-read-word2 .read-word2 .ensures) ∙ at-frame-length .frame-length .given .1) _ _
+    (sym (at-read-word3 .read-word3 .ensures) ∙ c .before .before .length .given .1) (c .if3 .taken)))
 
 pass-octets-requires : tie.Need-pass-octets-requires
 pass-octets-requires c κs = search needs
@@ -91,7 +109,12 @@ returns-7 c =
     let at-if1 = at-if2 .before in
     let at-protocol = at-if1 .before .before in
     let at-read-word = at-protocol .before .before in
-    sym (ap asPacket (header-found _ _ _ _ (sym (at-read-word .read-word .ensures) ∙ at-protocol .protocol .given .1) (at-if1 .if1 .left) (at-if2 .if2 .left) _ _ (sym (at-read-word2 .read-word2 .ensures) ∙ at-frame-length .frame-length .given .1) _ _ _ (sym (at-read-word3 .read-word3 .ensures) ∙ at-length .length .given .1) (at-if3 .if3 .left) (sym (at-pass-octets .pass-octets .ensures) ∙ c .before .next .given .1)))
+    sym
+    (ap asPacket
+    (header-found _ _ _ _ (sym (at-read-word .read-word .ensures) ∙ at-protocol .protocol .given .1) (at-if1 .if1 .left) (at-if2 .if2 .left) _ _
+    (sym (at-read-word2 .read-word2 .ensures) ∙ at-frame-length .frame-length .given .1) _ _ _
+    (sym (at-read-word3 .read-word3 .ensures) ∙ at-length .length .given .1) (at-if3 .if3 .left)
+    (sym (at-pass-octets .pass-octets .ensures) ∙ c .before .next .given .1)))
 
 returns-8 : tie.Need-returns-8
 returns-8 c =
@@ -105,7 +128,12 @@ returns-8 c =
     let at-if1 = at-if2 .before in
     let at-protocol = at-if1 .before .before in
     let at-read-word = at-protocol .before .before in
-    sym (ap asPacket (header-refused _ _ _ _ (sym (at-read-word .read-word .ensures) ∙ at-protocol .protocol .given .1) (at-if1 .if1 .left) (at-if2 .if2 .left) _ _ (sym (at-read-word2 .read-word2 .ensures) ∙ at-frame-length .frame-length .given .1) _ _ _ _ (sym (at-read-word3 .read-word3 .ensures) ∙ at-length .length .given .1) (at-if3 .if3 .left) (sym (at-pass-octets .pass-octets .ensures) ∙ c .before .why .given .1)))
+    sym
+    (ap asPacket
+    (header-refused _ _ _ _ (sym (at-read-word .read-word .ensures) ∙ at-protocol .protocol .given .1) (at-if1 .if1 .left) (at-if2 .if2 .left) _ _
+    (sym (at-read-word2 .read-word2 .ensures) ∙ at-frame-length .frame-length .given .1) _ _ _ _
+    (sym (at-read-word3 .read-word3 .ensures) ∙ at-length .length .given .1) (at-if3 .if3 .left)
+    (sym (at-pass-octets .pass-octets .ensures) ∙ c .before .why .given .1)))
 
 pub read-header-spec : {M : Type 1} → statement M
 read-header-spec =

@@ -1,6 +1,6 @@
 use borrow.Author.Needs.{needs}
 use Rattle.packet_data.proofs.Ip.{ipv6-reads, ipv6-whole}
-use Rattle.fields.proofs.FixedItems.{no-more, word-then, quad-then, word-cut, quad-cut}
+use Rattle.fields.proofs.FixedItems.{no-more, word-then, quad-then, four-then, word-cut, quad-cut, four-cut}
 use Rattle.packet_data.specs.Packets.{asPacket}
 use mathlib.Core.Path.{sym, ap, _∙_}
 use Rattle.packet_data.proofs.read_ipv6.Statement.{statement}
@@ -28,7 +28,12 @@ enum-told-2 : tie.Need-enum-told-2
 enum-told-2 c = search needs
 
 returns-2 : tie.Need-returns-2
-returns-2 c = sym (ap asPacket (ipv6-reads (word-then (sym (c .before .before .before .before .before .before .read-word .ensures) ∙ c .before .before .before .before .length .given .1) (word-cut (sym (c .before .before .read-word2 .ensures) ∙ c .enum-told2 .given .1)))))
+returns-2 c =
+    sym
+    (ap asPacket
+    (ipv6-reads
+    (word-then (sym (c .before .before .before .before .before .before .read-word .ensures) ∙ c .before .before .before .before .length .given .1)
+    (word-cut (sym (c .before .before .read-word2 .ensures) ∙ c .enum-told2 .given .1)))))
 
 read-quad-requires : tie.Need-read-quad-requires
 read-quad-requires c κs = search needs
@@ -45,7 +50,12 @@ returns-3 c =
     let at-read-word2 = at-protocol .before .before in
     let at-length = at-read-word2 .before .before in
     let at-read-word = at-length .before .before in
-    sym (ap asPacket (ipv6-reads (word-then (sym (at-read-word .read-word .ensures) ∙ at-length .length .given .1) (word-then (sym (at-read-word2 .read-word2 .ensures) ∙ at-protocol .protocol .given .1) (quad-cut (sym (c .before .before .read-quad .ensures) ∙ c .enum-told3 .given .1))))))
+    sym
+    (ap asPacket
+    (ipv6-reads
+    (word-then (sym (at-read-word .read-word .ensures) ∙ at-length .length .given .1)
+    (word-then (sym (at-read-word2 .read-word2 .ensures) ∙ at-protocol .protocol .given .1)
+    (quad-cut (sym (c .before .before .read-quad .ensures) ∙ c .enum-told3 .given .1))))))
 
 read-quad-requires-2 : tie.Need-read-quad-requires-2
 read-quad-requires-2 c κs = search needs
@@ -64,103 +74,22 @@ returns-4 c =
     let at-read-word2 = at-protocol .before .before in
     let at-length = at-read-word2 .before .before in
     let at-read-word = at-length .before .before in
-    sym (ap asPacket (ipv6-reads (word-then (sym (at-read-word .read-word .ensures) ∙ at-length .length .given .1) (word-then (sym (at-read-word2 .read-word2 .ensures) ∙ at-protocol .protocol .given .1) (quad-then (sym (at-read-quad .read-quad .ensures) ∙ at-sa .sa .given .1) (quad-cut (sym (c .before .before .read-quad2 .ensures) ∙ c .enum-told4 .given .1)))))))
+    sym
+    (ap asPacket
+    (ipv6-reads
+    (word-then (sym (at-read-word .read-word .ensures) ∙ at-length .length .given .1)
+    (word-then (sym (at-read-word2 .read-word2 .ensures) ∙ at-protocol .protocol .given .1)
+    (quad-then (sym (at-read-quad .read-quad .ensures) ∙ at-sa .sa .given .1)
+    (quad-cut (sym (c .before .before .read-quad2 .ensures) ∙ c .enum-told4 .given .1)))))))
 
-read-word-requires-3 : tie.Need-read-word-requires-3
-read-word-requires-3 c κs = search needs
+read-four-requires : tie.Need-read-four-requires
+read-four-requires c κs = search needs
+
+enum-known-p : tie.Need-enum-known-p
+enum-known-p c = search needs
 
 enum-known-src-port : tie.Need-enum-known-src-port
 enum-known-src-port c = search needs
-
-enum-told-5 : tie.Need-enum-told-5
-enum-told-5 c = search needs
-
-returns-5 : tie.Need-returns-5
-returns-5 c =
-    let at-da = c .before .before .before .before in
-    let at-read-quad2 = at-da .before .before in
-    let at-sa = at-read-quad2 .before .before in
-    let at-read-quad = at-sa .before .before in
-    let at-protocol = at-read-quad .before .before in
-    let at-read-word2 = at-protocol .before .before in
-    let at-length = at-read-word2 .before .before in
-    let at-read-word = at-length .before .before in
-    sym (ap asPacket (ipv6-reads (word-then (sym (at-read-word .read-word .ensures) ∙ at-length .length .given .1) (word-then (sym (at-read-word2 .read-word2 .ensures) ∙ at-protocol .protocol .given .1) (quad-then (sym (at-read-quad .read-quad .ensures) ∙ at-sa .sa .given .1) (quad-then (sym (at-read-quad2 .read-quad2 .ensures) ∙ at-da .da .given .1) (word-cut (sym (c .before .before .read-word3 .ensures) ∙ c .enum-told5 .given .1))))))))
-
-read-word-requires-4 : tie.Need-read-word-requires-4
-read-word-requires-4 c κs = search needs
-
-enum-known-dst-port : tie.Need-enum-known-dst-port
-enum-known-dst-port c = search needs
-
-enum-told-6 : tie.Need-enum-told-6
-enum-told-6 c = search needs
-
-returns-6 : tie.Need-returns-6
-returns-6 c =
-    let at-src-port = c .before .before .before .before in
-    let at-read-word3 = at-src-port .before .before in
-    let at-da = at-read-word3 .before .before in
-    let at-read-quad2 = at-da .before .before in
-    let at-sa = at-read-quad2 .before .before in
-    let at-read-quad = at-sa .before .before in
-    let at-protocol = at-read-quad .before .before in
-    let at-read-word2 = at-protocol .before .before in
-    let at-length = at-read-word2 .before .before in
-    let at-read-word = at-length .before .before in
-    sym (ap asPacket (ipv6-reads (word-then (sym (at-read-word .read-word .ensures) ∙ at-length .length .given .1) (word-then (sym (at-read-word2 .read-word2 .ensures) ∙ at-protocol .protocol .given .1) (quad-then (sym (at-read-quad .read-quad .ensures) ∙ at-sa .sa .given .1) (quad-then (sym (at-read-quad2 .read-quad2 .ensures) ∙ at-da .da .given .1) (word-then (sym (at-read-word3 .read-word3 .ensures) ∙ at-src-port .src-port .given .1) (word-cut (sym (c .before .before .read-word4 .ensures) ∙ c .enum-told6 .given .1)))))))))
-
-read-word-requires-5 : tie.Need-read-word-requires-5
-read-word-requires-5 c κs = search needs
-
-enum-known-tcp-flags : tie.Need-enum-known-tcp-flags
-enum-known-tcp-flags c = search needs
-
-enum-told-7 : tie.Need-enum-told-7
-enum-told-7 c = search needs
-
-returns-7 : tie.Need-returns-7
-returns-7 c =
-    let at-dst-port = c .before .before .before .before in
-    let at-read-word4 = at-dst-port .before .before in
-    let at-src-port = at-read-word4 .before .before in
-    let at-read-word3 = at-src-port .before .before in
-    let at-da = at-read-word3 .before .before in
-    let at-read-quad2 = at-da .before .before in
-    let at-sa = at-read-quad2 .before .before in
-    let at-read-quad = at-sa .before .before in
-    let at-protocol = at-read-quad .before .before in
-    let at-read-word2 = at-protocol .before .before in
-    let at-length = at-read-word2 .before .before in
-    let at-read-word = at-length .before .before in
-    sym (ap asPacket (ipv6-reads (word-then (sym (at-read-word .read-word .ensures) ∙ at-length .length .given .1) (word-then (sym (at-read-word2 .read-word2 .ensures) ∙ at-protocol .protocol .given .1) (quad-then (sym (at-read-quad .read-quad .ensures) ∙ at-sa .sa .given .1) (quad-then (sym (at-read-quad2 .read-quad2 .ensures) ∙ at-da .da .given .1) (word-then (sym (at-read-word3 .read-word3 .ensures) ∙ at-src-port .src-port .given .1) (word-then (sym (at-read-word4 .read-word4 .ensures) ∙ at-dst-port .dst-port .given .1) (word-cut (sym (c .before .before .read-word5 .ensures) ∙ c .enum-told7 .given .1))))))))))
-
-read-word-requires-6 : tie.Need-read-word-requires-6
-read-word-requires-6 c κs = search needs
-
-enum-known-priority : tie.Need-enum-known-priority
-enum-known-priority c = search needs
-
-enum-told-8 : tie.Need-enum-told-8
-enum-told-8 c = search needs
-
-returns-8 : tie.Need-returns-8
-returns-8 c =
-    let at-tcp-flags = c .before .before .before .before in
-    let at-read-word5 = at-tcp-flags .before .before in
-    let at-dst-port = at-read-word5 .before .before in
-    let at-read-word4 = at-dst-port .before .before in
-    let at-src-port = at-read-word4 .before .before in
-    let at-read-word3 = at-src-port .before .before in
-    let at-da = at-read-word3 .before .before in
-    let at-read-quad2 = at-da .before .before in
-    let at-sa = at-read-quad2 .before .before in
-    let at-read-quad = at-sa .before .before in
-    let at-protocol = at-read-quad .before .before in
-    let at-read-word2 = at-protocol .before .before in
-    let at-length = at-read-word2 .before .before in
-    let at-read-word = at-length .before .before in
-    sym (ap asPacket (ipv6-reads (word-then (sym (at-read-word .read-word .ensures) ∙ at-length .length .given .1) (word-then (sym (at-read-word2 .read-word2 .ensures) ∙ at-protocol .protocol .given .1) (quad-then (sym (at-read-quad .read-quad .ensures) ∙ at-sa .sa .given .1) (quad-then (sym (at-read-quad2 .read-quad2 .ensures) ∙ at-da .da .given .1) (word-then (sym (at-read-word3 .read-word3 .ensures) ∙ at-src-port .src-port .given .1) (word-then (sym (at-read-word4 .read-word4 .ensures) ∙ at-dst-port .dst-port .given .1) (word-then (sym (at-read-word5 .read-word5 .ensures) ∙ at-tcp-flags .tcp-flags .given .1) (word-cut (sym (c .before .before .read-word6 .ensures) ∙ c .enum-told8 .given .1)))))))))))
 
 quad-requires : tie.Need-quad-requires
 quad-requires c κs = search needs
@@ -168,8 +97,49 @@ quad-requires c κs = search needs
 quad-requires-2 : tie.Need-quad-requires-2
 quad-requires-2 c κs = search needs
 
-returns-9 : tie.Need-returns-9
-returns-9 c = rw (c .before .quad .ensures, c .quad2 .ensures) (sym (ap asPacket (ipv6-reads (word-then (sym (c .before .before .before .before .before .before .before .before .before .before .before .before .before .before .before .before .before .before .before .before .before .before .before .before .before .before .before .before .before .before .before .before .before .read-word .ensures) ∙ c .before .before .before .before .before .before .before .before .before .before .before .before .before .before .before .before .before .before .before .before .before .before .before .before .before .before .before .before .before .before .before .length .given .1) (word-then (sym (c .before .before .before .before .before .before .before .before .before .before .before .before .before .before .before .before .before .before .before .before .before .before .before .before .before .before .before .before .before .read-word2 .ensures) ∙ c .before .before .before .before .before .before .before .before .before .before .before .before .before .before .before .before .before .before .before .before .before .before .before .before .before .before .before .protocol .given .1) (quad-then (sym (c .before .before .before .before .before .before .before .before .before .before .before .before .before .before .before .before .before .before .before .before .before .before .before .before .before .read-quad .ensures) ∙ c .before .before .before .before .before .before .before .before .before .before .before .before .before .before .before .before .before .before .before .before .before .before .before .sa .given .1) (quad-then (sym (c .before .before .before .before .before .before .before .before .before .before .before .before .before .before .before .before .before .before .before .before .before .read-quad2 .ensures) ∙ c .before .before .before .before .before .before .before .before .before .before .before .before .before .before .before .before .before .before .before .da .given .1) (word-then (sym (c .before .before .before .before .before .before .before .before .before .before .before .before .before .before .before .before .before .read-word3 .ensures) ∙ c .before .before .before .before .before .before .before .before .before .before .before .before .before .before .before .src-port .given .1) (word-then (sym (c .before .before .before .before .before .before .before .before .before .before .before .before .before .read-word4 .ensures) ∙ c .before .before .before .before .before .before .before .before .before .before .before .dst-port .given .1) (word-then (sym (c .before .before .before .before .before .before .before .before .before .read-word5 .ensures) ∙ c .before .before .before .before .before .before .before .tcp-flags .given .1) (word-then (sym (c .before .before .before .before .before .read-word6 .ensures) ∙ c .before .before .before .priority .given .1) no-more)))))))) ∙ ipv6-whole _ _ _ _ _ _ _ _ _ _ _ _ _ _ _ (search (needs, c .before .before .before .before .before .before .before .before .before .before .before .before .before .before .before .before .before .before .before .before .before .before .known-told3 .given)) (search (needs, c .before .before .before .before .before .before .before .before .before .before .before .before .before .before .before .before .before .before .before .before .before .before .known-told3 .given)) (search (needs, c .before .before .before .before .before .before .before .before .before .before .before .before .before .before .before .before .before .before .before .before .before .before .known-told3 .given)) (search (needs, c .before .before .before .before .before .before .before .before .before .before .before .before .before .before .before .before .before .before .before .before .before .before .known-told3 .given)) (search (needs, c .before .before .before .before .before .before .before .before .before .before .before .before .before .before .before .before .before .before .known-told4 .given)) (search (needs, c .before .before .before .before .before .before .before .before .before .before .before .before .before .before .before .before .before .before .known-told4 .given)) (search (needs, c .before .before .before .before .before .before .before .before .before .before .before .before .before .before .before .before .before .before .known-told4 .given)) (search (needs, c .before .before .before .before .before .before .before .before .before .before .before .before .before .before .before .before .before .before .known-told4 .given)))))
+returns-5 : tie.Need-returns-5
+returns-5 c =
+    let at-p = c .before in
+    let at-read-four = at-p .before .before in
+    let at-da = at-read-four .before .before in
+    let at-read-quad2 = at-da .before .before in
+    let at-sa = at-read-quad2 .before .before in
+    let at-read-quad = at-sa .before .before in
+    let at-protocol = at-read-quad .before .before in
+    let at-read-word2 = at-protocol .before .before in
+    let at-length = at-read-word2 .before .before in
+    let at-read-word = at-length .before .before in
+    sym
+    (ap asPacket
+    (ipv6-reads
+    (word-then (sym (at-read-word .read-word .ensures) ∙ at-length .length .given .1)
+    (word-then (sym (at-read-word2 .read-word2 .ensures) ∙ at-protocol .protocol .given .1)
+    (quad-then (sym (at-read-quad .read-quad .ensures) ∙ at-sa .sa .given .1)
+    (quad-then (sym (at-read-quad2 .read-quad2 .ensures) ∙ at-da .da .given .1) (four-cut (sym (at-read-four .read-four .ensures) ∙ at-p .p .given .1))))))))
+
+returns-6 : tie.Need-returns-6
+returns-6 c =
+    let items =
+    (let at-src-port = c .before .before .before in
+    let at-read-four = at-src-port .before .before in
+    let at-da = at-read-four .before .before in
+    let at-read-quad2 = at-da .before .before in
+    let at-sa = at-read-quad2 .before .before in
+    let at-read-quad = at-sa .before .before in
+    let at-protocol = at-read-quad .before .before in
+    let at-read-word2 = at-protocol .before .before in
+    let at-length = at-read-word2 .before .before in
+    let at-read-word = at-length .before .before in
+    ipv6-reads
+    (word-then (sym (at-read-word .read-word .ensures) ∙ at-length .length .given .1)
+    (word-then (sym (at-read-word2 .read-word2 .ensures) ∙ at-protocol .protocol .given .1)
+    (quad-then (sym (at-read-quad .read-quad .ensures) ∙ at-sa .sa .given .1)
+    (quad-then (sym (at-read-quad2 .read-quad2 .ensures) ∙ at-da .da .given .1)
+    (four-then (sym (at-read-four .read-four .ensures) ∙ at-src-port .src-port .given .1) no-more)))))) in
+    let source = c .before .before .before .before .before .before .before .before .before .before .known-told3 .given in
+    let destination = c .before .before .before .before .before .before .known-told4 .given in
+    rw (c .before .quad .ensures, c .quad2 .ensures)
+    (sym (ap asPacket (items ∙ ipv6-whole _ _ _ _ _ _ _ _ _ _ _ _ _ _ _ (search (needs, source)) (search (needs, destination)))))
 
 pub read-ipv6-spec : {M : Type 1} → statement M
 read-ipv6-spec =
@@ -191,22 +161,10 @@ read-ipv6-spec =
     enum-known-da
     enum-told-4
     returns-4
-    read-word-requires-3
+    read-four-requires
+    enum-known-p
     enum-known-src-port
-    enum-told-5
-    returns-5
-    read-word-requires-4
-    enum-known-dst-port
-    enum-told-6
-    returns-6
-    read-word-requires-5
-    enum-known-tcp-flags
-    enum-told-7
-    returns-7
-    read-word-requires-6
-    enum-known-priority
-    enum-told-8
-    returns-8
     quad-requires
     quad-requires-2
-    returns-9)
+    returns-5
+    returns-6)

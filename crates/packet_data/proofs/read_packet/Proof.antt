@@ -21,13 +21,23 @@ read-header-requires : tie.Need-read-header-requires
 read-header-requires c κs = search needs
 
 returns-2 : tie.Need-returns-2
-returns-2 c = c .read-header .ensures ∙ sym (ap asPacket (packet-header _ _ _ _ (sym (c .before .before .before .before .before .read-word .ensures) ∙ c .before .before .before .kind .given .1) (c .before .if1 .taken)))
+returns-2 c =
+    c .read-header .ensures
+    ∙ sym
+    (ap asPacket
+    (packet-header _ _ _ _ (sym (c .before .before .before .before .before .read-word .ensures) ∙ c .before .before .before .kind .given .1)
+    (c .before .if1 .taken)))
 
 read-ipv4-requires : tie.Need-read-ipv4-requires
 read-ipv4-requires c κs = search needs
 
 returns-3 : tie.Need-returns-3
-returns-3 c = c .read-ipv4 .ensures ∙ sym (ap asPacket (packet-ipv4 _ _ _ _ (sym (c .before .before .before .before .before .before .read-word .ensures) ∙ c .before .before .before .before .kind .given .1) (c .before .if2 .taken)))
+returns-3 c =
+    c .read-ipv4 .ensures
+    ∙ sym
+    (ap asPacket
+    (packet-ipv4 _ _ _ _ (sym (c .before .before .before .before .before .before .read-word .ensures) ∙ c .before .before .before .before .kind .given .1)
+    (c .before .if2 .taken)))
 
 read-ipv6-requires : tie.Need-read-ipv6-requires
 read-ipv6-requires c κs = search needs
@@ -42,7 +52,10 @@ returns-5 : tie.Need-returns-5
 returns-5 c =
     let at-kind = c .before .before .before .before in
     let at-read-word = at-kind .before .before in
-    sym (ap asPacket (packet-other _ _ _ _ (sym (at-read-word .read-word .ensures) ∙ at-kind .kind .given .1) (c .before .before .if1 .left) (c .before .if2 .left) (c .if3 .left)))
+    sym
+    (ap asPacket
+    (packet-other _ _ _ _ (sym (at-read-word .read-word .ensures) ∙ at-kind .kind .given .1) (c .before .before .if1 .left) (c .before .if2 .left)
+    (c .if3 .left)))
 
 pub read-packet-spec : {M : Type 1} → statement M
 read-packet-spec =

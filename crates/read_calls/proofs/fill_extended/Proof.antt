@@ -6,23 +6,8 @@ use Rattle.read_calls.proofs.fill_extended.Tie as tie
 enum-known-x : tie.Need-enum-known-x
 enum-known-x c = c .match .keys1
 
-cast-t14 : tie.Need-cast-t14
-cast-t14 c = fits-widen tt (c .struct-known .given .0)
-
-cast-t15 : tie.Need-cast-t15
-cast-t15 c = fits-widen tt (c .struct-known2 .given .1 .0)
-
-cast-t16 : tie.Need-cast-t16
-cast-t16 c = fits-widen tt (c .struct-known3 .given .1 .1 .0)
-
-cast-t17 : tie.Need-cast-t17
-cast-t17 c = fits-widen tt (c .struct-known4 .given .1 .1 .1 .0)
-
-slice-aggregate-fill : tie.Need-slice-aggregate-fill
-slice-aggregate-fill c = refl
-
-fill-requires : tie.Need-fill-requires
-fill-requires c κs = tt
+fill-switch-requires : tie.Need-fill-switch-requires
+fill-switch-requires c κs = tt
 
 enum-known-x-2 : tie.Need-enum-known-x-2
 enum-known-x-2 c = c .match .keys2
@@ -39,11 +24,26 @@ fill-gateway-requires c κs = tt
 enum-known-x-4 : tie.Need-enum-known-x-4
 enum-known-x-4 c = c .match .keys4
 
-cast-t32 : tie.Need-cast-t32
-cast-t32 c = fits-widen tt (c .struct-known5 .given .0 .1 .0)
+cast-t24 : tie.Need-cast-t24
+cast-t24 c = fits-widen tt (c .struct-known .given .0 .1 .0)
+
+cast-t26 : tie.Need-cast-t26
+cast-t26 c = fits-widen tt (c .struct-known2 .given .1 .0 .1 .0)
+
+slice-aggregate-fill : tie.Need-slice-aggregate-fill
+slice-aggregate-fill c = refl
+
+fill-requires : tie.Need-fill-requires
+fill-requires c κs = tt
+
+enum-known-x-5 : tie.Need-enum-known-x-5
+enum-known-x-5 c = c .match .keys5
 
 cast-t34 : tie.Need-cast-t34
-cast-t34 c = fits-widen tt (c .struct-known6 .given .1 .0 .1 .0)
+cast-t34 c = fits-widen tt (c .struct-known3 .given .0)
+
+cast-t36 : tie.Need-cast-t36
+cast-t36 c = fits-widen tt (c .struct-known4 .given .1 .0 .1 .0)
 
 slice-aggregate-fill-2 : tie.Need-slice-aggregate-fill-2
 slice-aggregate-fill-2 c = refl
@@ -51,26 +51,11 @@ slice-aggregate-fill-2 c = refl
 fill-requires-2 : tie.Need-fill-requires-2
 fill-requires-2 c κs = tt
 
-enum-known-x-5 : tie.Need-enum-known-x-5
-enum-known-x-5 c = c .match .keys5
-
-cast-t42 : tie.Need-cast-t42
-cast-t42 c = fits-widen tt (c .struct-known7 .given .0)
-
-cast-t44 : tie.Need-cast-t44
-cast-t44 c = fits-widen tt (c .struct-known8 .given .1 .0 .1 .0)
-
-slice-aggregate-fill-3 : tie.Need-slice-aggregate-fill-3
-slice-aggregate-fill-3 c = refl
-
-fill-requires-3 : tie.Need-fill-requires-3
-fill-requires-3 c κs = tt
-
 same-length : tie.Need-same-length
 same-length c = c .before .out .given
 
 returns : tie.Need-returns
-returns c = rw (c .before .before .before .before .before .before .before .before .before .before .x .given .1) (c .before .before .fill .ensures)
+returns c = rw (c .before .before .before .before .before .x .given .1) (c .before .before .fill-switch .ensures)
 
 same-length-2 : tie.Need-same-length-2
 same-length-2 c = c .before .out2 .given
@@ -88,39 +73,34 @@ same-length-4 : tie.Need-same-length-4
 same-length-4 c = c .before .out4 .given
 
 returns-4 : tie.Need-returns-4
-returns-4 c = rw (c .before .before .before .before .before .before .before .before .x4 .given .1) (c .before .before .fill2 .ensures)
+returns-4 c = rw (c .before .before .before .before .before .before .before .before .x4 .given .1) (c .before .before .fill .ensures)
 
 same-length-5 : tie.Need-same-length-5
 same-length-5 c = c .before .out5 .given
 
 returns-5 : tie.Need-returns-5
-returns-5 c = rw (c .before .before .before .before .before .before .before .before .x5 .given .1) (c .before .before .fill3 .ensures)
+returns-5 c = rw (c .before .before .before .before .before .before .before .before .x5 .given .1) (c .before .before .fill2 .ensures)
 
 pub fill-extended-spec : {M : Type 1} → statement M
 fill-extended-spec =
     tie.close
     (tie.spec
     enum-known-x
-    cast-t14
-    cast-t15
-    cast-t16
-    cast-t17
-    slice-aggregate-fill
-    fill-requires
+    fill-switch-requires
     enum-known-x-2
     fill-router-requires
     enum-known-x-3
     fill-gateway-requires
     enum-known-x-4
-    cast-t32
+    cast-t24
+    cast-t26
+    slice-aggregate-fill
+    fill-requires
+    enum-known-x-5
     cast-t34
+    cast-t36
     slice-aggregate-fill-2
     fill-requires-2
-    enum-known-x-5
-    cast-t42
-    cast-t44
-    slice-aggregate-fill-3
-    fill-requires-3
     same-length
     returns
     same-length-2

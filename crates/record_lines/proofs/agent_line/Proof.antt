@@ -33,8 +33,12 @@ unfolding agentLine
 returns c =
     let at-labelled = c .before .before .before .before .before .before .before in
     let at-agent-text = at-labelled .before .before .before .before .before .before in
-    let at-agent-start = at-agent-text .before .before .before .before in
-    (then (then (then (at-agent-start .agent-start .ensures .0) (at-agent-text .agent-text .ensures .0) (search needs)) (at-labelled .labelled .ensures .0) (search needs)) (c .before .before .ending-line .ensures .0) (search needs), search needs)
+    let at-agent-start = at-agent-text .before .before .before .before in (
+      then
+          (then (then (at-agent-start .agent-start .ensures .0) (at-agent-text .agent-text .ensures .0) (search needs)) (at-labelled .labelled .ensures .0)
+          (search needs)) (c .before .before .ending-line .ensures .0) (search needs),
+      search needs,
+    )
 
 pub agent-line-spec : {M : Type 1} → statement M
 agent-line-spec =

@@ -45,8 +45,12 @@ unfolding dotted
 returns c =
     let at-labelled2 = c .before .before .before .before .before .before .before in
     let at-labelled = at-labelled2 .before .before .before .before .before in
-    let at-number = at-labelled .before .before .before .before .before in
-    (then (then (then (at-number .number .ensures .0) (at-labelled .labelled .ensures .0) (search needs)) (at-labelled2 .labelled2 .ensures .0) (search needs)) (c .before .before .labelled3 .ensures .0) (search needs), search needs)
+    let at-number = at-labelled .before .before .before .before .before in (
+      then
+          (then (then (at-number .number .ensures .0) (at-labelled .labelled .ensures .0) (search needs)) (at-labelled2 .labelled2 .ensures .0) (search needs))
+          (c .before .before .labelled3 .ensures .0) (search needs),
+      search needs,
+    )
 
 pub dotted-text-spec : {M : Type 1} → statement M
 dotted-text-spec =

@@ -24,8 +24,12 @@ unfolding hexText
 returns c =
     let at-hex-word3 = c .before .before .before .before .before .before in
     let at-hex-word2 = at-hex-word3 .before .before .before .before in
-    let at-hex-word = at-hex-word2 .before .before .before .before in
-    (then (then (then (at-hex-word .hex-word .ensures .0) (at-hex-word2 .hex-word2 .ensures .0) (search needs)) (at-hex-word3 .hex-word3 .ensures .0) (search needs)) (c .before .before .hex-word4 .ensures .0) (search needs), search needs)
+    let at-hex-word = at-hex-word2 .before .before .before .before in (
+      then
+          (then (then (at-hex-word .hex-word .ensures .0) (at-hex-word2 .hex-word2 .ensures .0) (search needs)) (at-hex-word3 .hex-word3 .ensures .0)
+          (search needs)) (c .before .before .hex-word4 .ensures .0) (search needs),
+      search needs,
+    )
 
 pub hex-text-spec : {M : Type 1} → statement M
 hex-text-spec =

@@ -59,7 +59,8 @@ returns-4 c =
     let at-refusal-number = c .before .before .before .before in
     let at-why = at-refusal-number .before .before in
     let at-read = at-why .before .before in
-    lists-refused _ _ _ _ _ _ _ _ _ (sym (at-read .read .ensures) ∙ at-why .why .given .1) (at-refusal-number .refusal-number .ensures) (c .before .before .refused-line .ensures .0) (omega arith)
+    lists-refused _ _ _ _ _ _ _ _ _ (sym (at-read .read .ensures) ∙ at-why .why .given .1) (at-refusal-number .refusal-number .ensures)
+    (c .before .before .refused-line .ensures .0) (omega arith)
 
 same-length-2 : tie.Need-same-length-2
 same-length-2 c = search needs
@@ -70,7 +71,8 @@ returns-5 c =
     let at-agent-line = c .before .before .before .before .before .before in
     let at-head = at-agent-line .before .before .before .before in
     let at-read = at-head .before .before in
-    lists _ _ _ _ _ _ _ (sym (at-read .read .ensures) ∙ at-head .head .given .1) (then (at-agent-line .agent-line .ensures .0) (c .before .before .sample-lines .ensures .0) (omega arith)) (omega arith)
+    lists _ _ _ _ _ _ _ (sym (at-read .read .ensures) ∙ at-head .head .given .1)
+    (then (at-agent-line .agent-line .ensures .0) (c .before .before .sample-lines .ensures .0) (omega arith)) (omega arith)
 
 pub list-record-spec : {M : Type 1} → statement M
 list-record-spec =

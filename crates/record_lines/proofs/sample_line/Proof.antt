@@ -32,7 +32,8 @@ unfolding sampleLine
 returns c =
     let at-values = c .before .before .before .before .before .before in
     let start = at-values .before .before .before in
-    let x = start .args .x in (puts-as (ap (sampleTextOf (x .offset) (x .length)) (at-values .values .given .1)) (c .before .before .sample-text .ensures .0), omega arith)
+    let x = start .args .x in
+    (puts-as (ap (sampleTextOf (x .offset) (x .length)) (at-values .values .given .1)) (c .before .before .sample-text .ensures .0), omega arith)
 
 same-length-2 : tie.Need-same-length-2
 same-length-2 c = search needs
@@ -42,7 +43,8 @@ unfolding sampleLine
 returns-2 c =
     let at-values2 = c .before .before .before .before .before .before in
     let start = at-values2 .before .before .before in
-    let x = start .args .x in (puts-as (ap (sampleTextOf (x .offset) (x .length)) (at-values2 .values2 .given .1)) (c .before .before .sample-text2 .ensures .0), omega arith)
+    let x = start .args .x in
+    (puts-as (ap (sampleTextOf (x .offset) (x .length)) (at-values2 .values2 .given .1)) (c .before .before .sample-text2 .ensures .0), omega arith)
 
 pub sample-line-spec : {M : Type 1} → statement M
 sample-line-spec =

@@ -26,7 +26,11 @@ same-length : tie.Need-same-length Inv-loop μ-loop
 same-length c = c .before .before .before .loop .inv .1
 
 returns : tie.Need-returns Inv-loop μ-loop
-returns c = (leaves-end _ _ _ _ _ _ (c .before .before .before .loop .inv .2) (walked-over _ _ _ _ (c .before .before .loop-test .taken) (c .before .next-sample .ensures) (c .match .keys2)) (omega arith), omega arith)
+returns c = (
+  leaves-end _ _ _ _ _ _ (c .before .before .before .loop .inv .2)
+      (walked-over _ _ _ _ (c .before .before .loop-test .taken) (c .before .next-sample .ensures) (c .match .keys2)) (omega arith),
+  omega arith,
+)
 
 sample-line-requires : tie.Need-sample-line-requires Inv-loop μ-loop
 sample-line-requires c κs = search needs
@@ -41,8 +45,11 @@ loop-again : tie.Need-loop-again Inv-loop μ-loop
 loop-again c =
     let k = c .before .before .before .before .before .before .before in
     let l = k .before .before .loop .inv in
-    let found = sym (k .next-sample .ensures) ∙ c .before .before .before .before .before .step .given .1 in
-    (omega arith, omega arith, leaves-next _ _ _ _ _ _ _ _ _ _ (l .1) (l .2) (walked-more _ _ _ _ _ (k .before .loop-test .taken) found) (c .before .before .sample-line .ensures .0))
+    let found = sym (k .next-sample .ensures) ∙ c .before .before .before .before .before .step .given .1 in (
+      omega arith,
+      omega arith,
+      leaves-next _ _ _ _ _ _ _ _ _ _ (l .1) (l .2) (walked-more _ _ _ _ _ (k .before .loop-test .taken) found) (c .before .before .sample-line .ensures .0),
+    )
 
 same-length-2 : tie.Need-same-length-2 Inv-loop μ-loop
 same-length-2 c = c .before .loop .inv .1

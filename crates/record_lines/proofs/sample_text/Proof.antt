@@ -30,8 +30,12 @@ unfolding sampleText
 returns c =
     let at-source-text = c .before .before .before .before .before .before .before in
     let at-labelled2 = at-source-text .before .before .before .before in
-    let at-labelled = at-labelled2 .before .before .before .before .before in
-    (then (then (then (at-labelled .labelled .ensures .0) (at-labelled2 .labelled2 .ensures .0) (search needs)) (at-source-text .source-text .ensures .0) (search needs)) (c .before .before .ending-line .ensures .0) (search needs), search needs)
+    let at-labelled = at-labelled2 .before .before .before .before .before in (
+      then
+          (then (then (at-labelled .labelled .ensures .0) (at-labelled2 .labelled2 .ensures .0) (search needs)) (at-source-text .source-text .ensures .0)
+          (search needs)) (c .before .before .ending-line .ensures .0) (search needs),
+      search needs,
+    )
 
 pub sample-text-spec : {M : Type 1} → statement M
 sample-text-spec =

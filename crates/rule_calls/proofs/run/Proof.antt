@@ -25,7 +25,9 @@ same-length : tie.Need-same-length
 same-length c = c .before .before .out2 .given ∙ c .before .before .before .before .before .before .out .given
 
 returns : tie.Need-returns
-returns c = let at-fill-key = c .before .before .before in let at-fill = at-fill-key .before .before .before .before in let at-rule-named = at-fill .before .before .before in
+returns c =
+    let at-fill-key = c .before .before .before in
+    let at-fill = at-fill-key .before .before .before .before in let at-rule-named = at-fill .before .before .before in
     rw (
       sym (at-rule-named .before .before .run .ensures),
       sym (at-rule-named .rule-named .ensures),

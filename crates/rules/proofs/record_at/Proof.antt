@@ -48,7 +48,9 @@ returns-3 c =
     let at-if2 = at-pair-of .before .before .before in
     let at-if1 = at-if2 .before in
     let entry = at-if1 .before .before in
-    record-joined (now (entry .args .s)) (entry .args .i) (at-if1 .if1 .left) (at-if2 .if2 .left) (record { mark = at-pair-of .pair-of .result; rule = c .before .rule-in .result; declared = c .declared-in .result }) (at-pair-of .pair-of .ensures ∙ mark-read (now (entry .args .s)) _) (c .before .rule-in .ensures) (c .declared-in .ensures)
+    record-joined (now (entry .args .s)) (entry .args .i) (at-if1 .if1 .left) (at-if2 .if2 .left)
+    (record { mark = at-pair-of .pair-of .result; rule = c .before .rule-in .result; declared = c .declared-in .result })
+    (at-pair-of .pair-of .ensures ∙ mark-read (now (entry .args .s)) _) (c .before .rule-in .ensures) (c .declared-in .ensures)
 
 pub record-at-spec : {M : Type 1} → statement M
 record-at-spec =

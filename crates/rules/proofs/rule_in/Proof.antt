@@ -84,7 +84,8 @@ returns c =
     let at-word-of2 = c .before .before in
     let at-word-of = at-word-of2 .before .before .before .before .before in
     let entry = at-word-of .before .before .before .before .before .before .before .before in
-    rule-read (now (entry .args .s)) (entry .args .at) (at-word-of .word-of .result) (at-word-of2 .word-of2 .result) (at-word-of .word-of .ensures) (at-word-of2 .word-of2 .ensures) (c .number-of .result) (c .number-of .ensures)
+    rule-read (now (entry .args .s)) (entry .args .at) (at-word-of .word-of .result) (at-word-of2 .word-of2 .result) (at-word-of .word-of .ensures)
+    (at-word-of2 .word-of2 .ensures) (c .number-of .result) (c .number-of .ensures)
 
 pub rule-in-spec : {M : Type 1} → statement M
 rule-in-spec =

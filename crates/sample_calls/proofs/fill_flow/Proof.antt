@@ -36,7 +36,9 @@ same-length c = let at-out = c .before .before .before .before .before in let at
     ∙ at-out' .before .before .before .before .out .given
 
 returns : tie.Need-returns
-returns c = let at-fill-behind = c .before .before .before .before .before .before in let at-fill-words = at-fill-behind .before .before .before .before .before .before in let at-fill = at-fill-words .before .before .before .before in
+returns c =
+    let at-fill-behind = c .before .before .before .before .before .before in
+    let at-fill-words = at-fill-behind .before .before .before .before .before .before in let at-fill = at-fill-words .before .before .before .before in
     rw (sym (at-fill .before .before .before .packet-type .ensures))
     (then-behind _ _ _ _ _ 13 refl
     (then-behind _ _ _ _ _ 10 refl

@@ -52,7 +52,9 @@ same-length c = let at-out = c .before .before .before .before .before .before .
     )
 
 returns : tie.Need-returns
-returns c = let at-fill-quad = c .before .before .before .before .before .before .before .before .before .before .before in let at-fill-quad' = at-fill-quad .before .before .before .before in
+returns c =
+    let at-fill-quad = c .before .before .before .before .before .before .before .before .before .before .before in
+    let at-fill-quad' = at-fill-quad .before .before .before .before in
     behind-behind _ _ _ _ _ 13 23 refl
     (behind-behind _ _ _ _ _ 13 19 refl
     (behind-behind _ _ _ _ _ 13 15 refl

@@ -70,7 +70,9 @@ same-length-2 : tie.Need-same-length-2
 same-length-2 c = c .before .out2 .given
 
 returns-2 : tie.Need-returns-2
-returns-2 c = rw (c .before .before .before .before .before .before .before .before .before .before .before .before .before .before .p2 .given .1) (c .before .before .fill-behind2 .ensures)
+returns-2 c =
+    rw (c .before .before .before .before .before .before .before .before .before .before .before .before .before .before .p2 .given .1)
+    (c .before .before .fill-behind2 .ensures)
 
 same-length-3 : tie.Need-same-length-3
 same-length-3 c = c .before .out3 .given

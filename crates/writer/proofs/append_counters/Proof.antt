@@ -17,13 +17,19 @@ enum-known-at : tie.Need-enum-known-at
 enum-known-at c = search needs
 
 sub-write-counters : tie.Need-sub-write-counters
-sub-write-counters c = (so-far _ _ _ _ _ (λ i. c .before .before .before .before .before .before .slice-known .given i .fits) (sym (c .before .before .before .check-so-far .ensures) ∙ c .before .at .given .1)) .small
+sub-write-counters c =
+    (so-far _ _ _ _ _ (λ i. c .before .before .before .before .before .before .slice-known .given i .fits)
+    (sym (c .before .before .before .check-so-far .ensures) ∙ c .before .at .given .1)) .small
 
 part-write-counters-start : tie.Need-part-write-counters-start
-part-write-counters-start c = (so-far _ _ _ _ _ (λ i. c .before .before .before .before .before .before .slice-known .given i .fits) (sym (c .before .before .before .check-so-far .ensures) ∙ c .before .at .given .1)) .small
+part-write-counters-start c =
+    (so-far _ _ _ _ _ (λ i. c .before .before .before .before .before .before .slice-known .given i .fits)
+    (sym (c .before .before .before .check-so-far .ensures) ∙ c .before .at .given .1)) .small
 
 part-write-counters-end : tie.Need-part-write-counters-end
-part-write-counters-end c = (so-far _ _ _ _ _ (λ i. c .before .before .before .before .before .before .slice-known .given i .fits) (sym (c .before .before .before .check-so-far .ensures) ∙ c .before .at .given .1)) .inside
+part-write-counters-end c =
+    (so-far _ _ _ _ _ (λ i. c .before .before .before .before .before .before .slice-known .given i .fits)
+    (sym (c .before .before .before .check-so-far .ensures) ∙ c .before .at .given .1)) .inside
 
 write-counters-requires : tie.Need-write-counters-requires
 write-counters-requires c κs = search needs
@@ -35,7 +41,12 @@ raise-count-requires c κs =
     let at-check-so-far = at-at .before .before in
     let at-slice-known = at-check-so-far .before .before .before in
     let entry = at-slice-known .before in
-    room-fitting _ _ _ _ (so-far _ _ _ _ _ (λ i. at-slice-known .slice-known .given i .fits) (sym (at-check-so-far .check-so-far .ensures) ∙ at-at .at .given .1)) (countersAllowed (entry .args .version) (entry .args .numbers .now)) (encode sample-type (countersValue (entry .args .sequence-number) (entry .args .source-id) (entry .args .sampling-interval) (entry .args .version) (entry .args .numbers .now))) _ _ (at-write-counters .write-counters .ensures)
+    room-fitting _ _ _ _
+    (so-far _ _ _ _ _ (λ i. at-slice-known .slice-known .given i .fits) (sym (at-check-so-far .check-so-far .ensures) ∙ at-at .at .given .1))
+    (countersAllowed (entry .args .version) (entry .args .numbers .now))
+    (encode sample-type
+    (countersValue (entry .args .sequence-number) (entry .args .source-id) (entry .args .sampling-interval) (entry .args .version)
+    (entry .args .numbers .now))) _ _ (at-write-counters .write-counters .ensures)
 
 same-length : tie.Need-same-length
 same-length c = search needs
@@ -52,7 +63,10 @@ returns-2 c =
     let at-at = at-write-counters .before .before .before in
     let at-check-so-far = at-at .before .before in
     let at-slice-known = at-check-so-far .before .before .before in
-    room-appended _ _ _ _ (so-far _ _ _ _ _ (λ i. at-slice-known .slice-known .given i .fits) (sym (at-check-so-far .check-so-far .ensures) ∙ at-at .at .given .1)) _ _ _ _ _ _ (sym (at-at .at .given .1) ∙ at-check-so-far .check-so-far .ensures) (at-write-counters .write-counters .ensures) (c .before .before .raise-count .ensures)
+    room-appended _ _ _ _
+    (so-far _ _ _ _ _ (λ i. at-slice-known .slice-known .given i .fits) (sym (at-check-so-far .check-so-far .ensures) ∙ at-at .at .given .1)) _ _ _ _ _ _
+    (sym (at-at .at .given .1) ∙ at-check-so-far .check-so-far .ensures) (at-write-counters .write-counters .ensures)
+    (c .before .before .raise-count .ensures)
 
 pub append-counters-spec : {M : Type 1} → statement M
 append-counters-spec =

@@ -15,13 +15,19 @@ enum-known-at : tie.Need-enum-known-at
 enum-known-at c = search needs
 
 sub-write-flow : tie.Need-sub-write-flow
-sub-write-flow c = (so-far _ _ _ _ _ (λ i. c .before .before .before .before .before .before .before .slice-known .given i .fits) (sym (c .before .before .before .check-so-far .ensures) ∙ c .before .at .given .1)) .small
+sub-write-flow c =
+    (so-far _ _ _ _ _ (λ i. c .before .before .before .before .before .before .before .slice-known .given i .fits)
+    (sym (c .before .before .before .check-so-far .ensures) ∙ c .before .at .given .1)) .small
 
 part-write-flow-start : tie.Need-part-write-flow-start
-part-write-flow-start c = (so-far _ _ _ _ _ (λ i. c .before .before .before .before .before .before .before .slice-known .given i .fits) (sym (c .before .before .before .check-so-far .ensures) ∙ c .before .at .given .1)) .small
+part-write-flow-start c =
+    (so-far _ _ _ _ _ (λ i. c .before .before .before .before .before .before .before .slice-known .given i .fits)
+    (sym (c .before .before .before .check-so-far .ensures) ∙ c .before .at .given .1)) .small
 
 part-write-flow-end : tie.Need-part-write-flow-end
-part-write-flow-end c = (so-far _ _ _ _ _ (λ i. c .before .before .before .before .before .before .before .slice-known .given i .fits) (sym (c .before .before .before .check-so-far .ensures) ∙ c .before .at .given .1)) .inside
+part-write-flow-end c =
+    (so-far _ _ _ _ _ (λ i. c .before .before .before .before .before .before .before .slice-known .given i .fits)
+    (sym (c .before .before .before .check-so-far .ensures) ∙ c .before .at .given .1)) .inside
 
 write-flow-requires : tie.Need-write-flow-requires
 write-flow-requires c κs = search needs
@@ -33,7 +39,11 @@ raise-count-requires c κs =
     let at-check-so-far = at-at .before .before in
     let at-slice-known = at-check-so-far .before .before .before .before in
     let entry = at-slice-known .before in
-    room-fitting _ _ _ _ (so-far _ _ _ _ _ (λ i. at-slice-known .slice-known .given i .fits) (sym (at-check-so-far .check-so-far .ensures) ∙ at-at .at .given .1)) (flowAllowed (entry .args .packet .now) (entry .args .count) (entry .args .extended .now)) (flowOctets (entry .args .words) (entry .args .packet .now) (entry .args .count) (entry .args .extended .now)) _ _ (at-write-flow .write-flow .ensures)
+    room-fitting _ _ _ _
+    (so-far _ _ _ _ _ (λ i. at-slice-known .slice-known .given i .fits) (sym (at-check-so-far .check-so-far .ensures) ∙ at-at .at .given .1))
+    (flowAllowed (entry .args .packet .now) (entry .args .count) (entry .args .extended .now))
+    (flowOctets (entry .args .words) (entry .args .packet .now) (entry .args .count) (entry .args .extended .now)) _ _
+    (at-write-flow .write-flow .ensures)
 
 same-length : tie.Need-same-length
 same-length c = search needs
@@ -50,7 +60,9 @@ returns-2 c =
     let at-at = at-write-flow .before .before .before in
     let at-check-so-far = at-at .before .before in
     let at-slice-known = at-check-so-far .before .before .before .before in
-    room-appended _ _ _ _ (so-far _ _ _ _ _ (λ i. at-slice-known .slice-known .given i .fits) (sym (at-check-so-far .check-so-far .ensures) ∙ at-at .at .given .1)) _ _ _ _ _ _ (sym (at-at .at .given .1) ∙ at-check-so-far .check-so-far .ensures) (at-write-flow .write-flow .ensures) (c .before .before .raise-count .ensures)
+    room-appended _ _ _ _
+    (so-far _ _ _ _ _ (λ i. at-slice-known .slice-known .given i .fits) (sym (at-check-so-far .check-so-far .ensures) ∙ at-at .at .given .1)) _ _ _ _ _ _
+    (sym (at-at .at .given .1) ∙ at-check-so-far .check-so-far .ensures) (at-write-flow .write-flow .ensures) (c .before .before .raise-count .ensures)
 
 pub append-flow-spec : {M : Type 1} → statement M
 append-flow-spec =

@@ -16,13 +16,19 @@ enum-known-at : tie.Need-enum-known-at
 enum-known-at c = search needs
 
 sub-write-sample : tie.Need-sub-write-sample
-sub-write-sample c = (so-far _ _ _ _ _ (λ i. c .before .before .before .before .before .before .slice-known .given i .fits) (sym (c .before .before .before .check-so-far .ensures) ∙ c .before .at .given .1)) .small
+sub-write-sample c =
+    (so-far _ _ _ _ _ (λ i. c .before .before .before .before .before .before .slice-known .given i .fits)
+    (sym (c .before .before .before .check-so-far .ensures) ∙ c .before .at .given .1)) .small
 
 part-write-sample-start : tie.Need-part-write-sample-start
-part-write-sample-start c = (so-far _ _ _ _ _ (λ i. c .before .before .before .before .before .before .slice-known .given i .fits) (sym (c .before .before .before .check-so-far .ensures) ∙ c .before .at .given .1)) .small
+part-write-sample-start c =
+    (so-far _ _ _ _ _ (λ i. c .before .before .before .before .before .before .slice-known .given i .fits)
+    (sym (c .before .before .before .check-so-far .ensures) ∙ c .before .at .given .1)) .small
 
 part-write-sample-end : tie.Need-part-write-sample-end
-part-write-sample-end c = (so-far _ _ _ _ _ (λ i. c .before .before .before .before .before .before .slice-known .given i .fits) (sym (c .before .before .before .check-so-far .ensures) ∙ c .before .at .given .1)) .inside
+part-write-sample-end c =
+    (so-far _ _ _ _ _ (λ i. c .before .before .before .before .before .before .slice-known .given i .fits)
+    (sym (c .before .before .before .check-so-far .ensures) ∙ c .before .at .given .1)) .inside
 
 write-sample-requires : tie.Need-write-sample-requires
 write-sample-requires c κs = search needs
@@ -34,7 +40,9 @@ raise-count-requires c κs =
     let at-check-so-far = at-at .before .before in
     let at-slice-known = at-check-so-far .before .before .before in
     let entry = at-slice-known .before in
-    room-fitting _ _ _ _ (so-far _ _ _ _ _ (λ i. at-slice-known .slice-known .given i .fits) (sym (at-check-so-far .check-so-far .ensures) ∙ at-at .at .given .1)) (isOne sample-type (entry .args .sample .now)) (entry .args .sample .now) _ _ (at-write-sample .write-sample .ensures)
+    room-fitting _ _ _ _
+    (so-far _ _ _ _ _ (λ i. at-slice-known .slice-known .given i .fits) (sym (at-check-so-far .check-so-far .ensures) ∙ at-at .at .given .1))
+    (isOne sample-type (entry .args .sample .now)) (entry .args .sample .now) _ _ (at-write-sample .write-sample .ensures)
 
 same-length : tie.Need-same-length
 same-length c = search needs
@@ -51,7 +59,10 @@ returns-2 c =
     let at-at = at-write-sample .before .before .before in
     let at-check-so-far = at-at .before .before in
     let at-slice-known = at-check-so-far .before .before .before in
-    room-appended _ _ _ _ (so-far _ _ _ _ _ (λ i. at-slice-known .slice-known .given i .fits) (sym (at-check-so-far .check-so-far .ensures) ∙ at-at .at .given .1)) _ _ _ _ _ _ (sym (at-at .at .given .1) ∙ at-check-so-far .check-so-far .ensures) (at-write-sample .write-sample .ensures) (c .before .before .raise-count .ensures)
+    room-appended _ _ _ _
+    (so-far _ _ _ _ _ (λ i. at-slice-known .slice-known .given i .fits) (sym (at-check-so-far .check-so-far .ensures) ∙ at-at .at .given .1)) _ _ _ _ _ _
+    (sym (at-at .at .given .1) ∙ at-check-so-far .check-so-far .ensures) (at-write-sample .write-sample .ensures)
+    (c .before .before .raise-count .ensures)
 
 pub append-octets-spec : {M : Type 1} → statement M
 append-octets-spec =

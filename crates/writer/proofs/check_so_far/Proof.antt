@@ -19,7 +19,8 @@ slice-aggregate-read : tie.Need-slice-aggregate-read
 slice-aggregate-read c =
     let at-limit-allowed = c .before .before .before in
     let entry = at-limit-allowed .before .before in
-    let h : entry .args .limit ≤ length (entry .args .d .now) = limit-allowed _ _ (sym (at-limit-allowed .limit-allowed .ensures) ∙ c .before .before .if1 .taken) .inside in rw length-take (omega arith)
+    let h : entry .args .limit ≤ length (entry .args .d .now) = limit-allowed _ _ (sym (at-limit-allowed .limit-allowed .ensures) ∙ c .before .before .if1 .taken) .inside in
+    rw length-take (omega arith)
 
 read-requires : tie.Need-read-requires
 read-requires c κs = search needs
@@ -35,7 +36,8 @@ returns-2 c =
     let at-if2 = c .before .before .before .before in
     let at-if1 = at-if2 .before in
     let at-limit-allowed = at-if1 .before in
-    so-far-refused _ _ _ (sym (at-limit-allowed .limit-allowed .ensures) ∙ at-if1 .if1 .taken) (at-if2 .if2 .left) _ _ (sym (c .before .before .read .ensures) ∙ c .enum-told .given .1)
+    so-far-refused _ _ _ (sym (at-limit-allowed .limit-allowed .ensures) ∙ at-if1 .if1 .taken) (at-if2 .if2 .left) _ _
+    (sym (c .before .before .read .ensures) ∙ c .enum-told .given .1)
 
 sub-t14 : tie.Need-sub-t14
 sub-t14 c = head-at _ _ (sym (c .before .before .before .before .before .read .ensures) ∙ c .before .before .before .head .given .1)
@@ -46,7 +48,8 @@ add-t15 c =
     let at-read = at-head .before .before in
     let at-shared-slice-known = at-read .before .before .before .before .before in
     let entry = at-shared-slice-known .before in
-    let f = head-few (take (entry .args .length) (entry .args .d .now)) (octets-take (entry .args .length) (entry .args .d .now) (λ i. at-shared-slice-known .shared-slice-known .given i .fits)) _ (sym (at-read .read .ensures) ∙ at-head .head .given .1) in omega arith
+    let f = head-few (take (entry .args .length) (entry .args .d .now)) (octets-take (entry .args .length) (entry .args .d .now) (λ i. at-shared-slice-known .shared-slice-known .given i .fits)) _ (sym (at-read .read .ensures) ∙ at-head .head .given .1) in
+    omega arith
 
 returns-3 : tie.Need-returns-3
 returns-3 c =
@@ -55,7 +58,8 @@ returns-3 c =
     let at-if2 = at-read .before .before in
     let at-if1 = at-if2 .before in
     let at-limit-allowed = at-if1 .before in
-    so-far-found _ _ _ (sym (at-limit-allowed .limit-allowed .ensures) ∙ at-if1 .if1 .taken) (at-if2 .if2 .left) _ (sym (at-read .read .ensures) ∙ at-head .head .given .1)
+    so-far-found _ _ _ (sym (at-limit-allowed .limit-allowed .ensures) ∙ at-if1 .if1 .taken) (at-if2 .if2 .left) _
+    (sym (at-read .read .ensures) ∙ at-head .head .given .1)
 
 returns-4 : tie.Need-returns-4
 returns-4 c = so-far-limit _ _ _ (sym (c .before .limit-allowed .ensures) ∙ c .if1 .left)

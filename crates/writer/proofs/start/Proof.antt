@@ -17,7 +17,11 @@ same-length : tie.Need-same-length
 same-length c = search needs
 
 returns : tie.Need-returns
-returns c = c .before .before .write-words .ensures ∙ start-ipv4 _ _ _ _ _ (sym (c .before .before .before .before .before .before .before .before .limit-allowed .ensures) ∙ c .before .before .before .before .before .before .before .if1 .taken) (c .before .before .before .before .before .if2 .taken)
+returns c =
+    c .before .before .write-words .ensures
+    ∙ start-ipv4 _ _ _ _ _
+    (sym (c .before .before .before .before .before .before .before .before .limit-allowed .ensures)
+    ∙ c .before .before .before .before .before .before .before .if1 .taken) (c .before .before .before .before .before .if2 .taken)
 
 slice-aggregate-write-words-2 : tie.Need-slice-aggregate-write-words-2
 slice-aggregate-write-words-2 c = search needs
@@ -29,10 +33,17 @@ same-length-2 : tie.Need-same-length-2
 same-length-2 c = search needs
 
 returns-2 : tie.Need-returns-2
-returns-2 c = c .before .before .write-words2 .ensures ∙ start-ipv6 _ _ _ _ _ (sym (c .before .before .before .before .before .before .before .before .before .limit-allowed .ensures) ∙ c .before .before .before .before .before .before .before .before .if1 .taken) (c .before .before .before .before .before .if3 .taken) (search needs) (search needs) (search needs)
+returns-2 c =
+    c .before .before .write-words2 .ensures
+    ∙ start-ipv6 _ _ _ _ _
+    (sym (c .before .before .before .before .before .before .before .before .before .limit-allowed .ensures)
+    ∙ c .before .before .before .before .before .before .before .before .if1 .taken) (c .before .before .before .before .before .if3 .taken)
+    (search needs) (search needs) (search needs)
 
 returns-3 : tie.Need-returns-3
-returns-3 c = start-other _ _ _ _ _ (sym (c .before .before .before .before .limit-allowed .ensures) ∙ c .before .before .before .if1 .taken) (c .before .if2 .left) (c .if3 .left)
+returns-3 c =
+    start-other _ _ _ _ _ (sym (c .before .before .before .before .limit-allowed .ensures) ∙ c .before .before .before .if1 .taken) (c .before .if2 .left)
+    (c .if3 .left)
 
 returns-4 : tie.Need-returns-4
 returns-4 c = start-limit _ _ _ _ _ (sym (c .before .limit-allowed .ensures) ∙ c .if1 .left)

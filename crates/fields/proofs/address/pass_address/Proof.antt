@@ -31,13 +31,27 @@ pass-run-requires-2 : tie.Need-pass-run-requires-2
 pass-run-requires-2 c κs = search needs
 
 returns-2 : tie.Need-returns-2
-returns-2 c = sym (passed-arm _ _ _ _ _ _ _ (sym (c .before .before .before .before .before .before .read-word .ensures) ∙ c .before .before .before .before .kind .given .1) 1 (c .before .before .match2 .keys1) refl ∙ passed-run _ _ _ _ _ refl (sym (c .pass-run .ensures)))
+returns-2 c =
+    sym
+    (passed-arm _ _ _ _ _ _ _
+    (sym (c .before .before .before .before .before .before .read-word .ensures) ∙ c .before .before .before .before .kind .given .1) 1
+    (c .before .before .match2 .keys1) refl
+    ∙ passed-run _ _ _ _ _ refl (sym (c .pass-run .ensures)))
 
 returns-3 : tie.Need-returns-3
-returns-3 c = sym (passed-arm _ _ _ _ _ _ _ (sym (c .before .before .before .before .before .before .read-word .ensures) ∙ c .before .before .before .before .kind .given .1) 2 (c .before .before .match2 .keys2) refl ∙ passed-run _ _ _ _ _ refl (sym (c .pass-run2 .ensures)))
+returns-3 c =
+    sym
+    (passed-arm _ _ _ _ _ _ _
+    (sym (c .before .before .before .before .before .before .read-word .ensures) ∙ c .before .before .before .before .kind .given .1) 2
+    (c .before .before .match2 .keys2) refl
+    ∙ passed-run _ _ _ _ _ refl (sym (c .pass-run2 .ensures)))
 
 returns-4 : tie.Need-returns-4
-returns-4 c = sym (passed-view _ _ _ addressOf _ (address-other _ _ _ _ (sym (c .before .before .before .before .read-word .ensures) ∙ c .before .before .kind .given .1) (c .match2 .rest .0 .1) (c .match2 .rest .1)))
+returns-4 c =
+    sym
+    (passed-view _ _ _ addressOf _
+    (address-other _ _ _ _ (sym (c .before .before .before .before .read-word .ensures) ∙ c .before .before .kind .given .1) (c .match2 .rest .0 .1)
+    (c .match2 .rest .1)))
 
 pub pass-address-spec : {M : Type 1} → statement M
 pass-address-spec =

@@ -31,7 +31,10 @@ returns-2 c =
     let at-if1 = c .before .before .before in
     let at-kind = at-if1 .before .before in
     let at-read-word = at-kind .before .before in
-    sym (ap asAddress (address-v4-cut _ _ _ _ _ (sym (at-read-word .read-word .ensures) ∙ at-kind .kind .given .1) (at-if1 .if1 .taken) (sym (c .before .before .read-word2 .ensures) ∙ c .enum-told2 .given .1)))
+    sym
+    (ap asAddress
+    (address-v4-cut _ _ _ _ _ (sym (at-read-word .read-word .ensures) ∙ at-kind .kind .given .1) (at-if1 .if1 .taken)
+    (sym (c .before .before .read-word2 .ensures) ∙ c .enum-told2 .given .1)))
 
 returns-3 : tie.Need-returns-3
 returns-3 c =
@@ -39,7 +42,10 @@ returns-3 c =
     let at-if1 = at-read-word2 .before in
     let at-kind = at-if1 .before .before in
     let at-read-word = at-kind .before .before in
-    sym (ap asAddress (address-v4 _ _ _ _ _ _ (sym (at-read-word .read-word .ensures) ∙ at-kind .kind .given .1) (at-if1 .if1 .taken) (sym (at-read-word2 .read-word2 .ensures) ∙ c .before .a .given .1)))
+    sym
+    (ap asAddress
+    (address-v4 _ _ _ _ _ _ (sym (at-read-word .read-word .ensures) ∙ at-kind .kind .given .1) (at-if1 .if1 .taken)
+    (sym (at-read-word2 .read-word2 .ensures) ∙ c .before .a .given .1)))
 
 read-quad-requires : tie.Need-read-quad-requires
 read-quad-requires c κs = search needs
@@ -55,7 +61,10 @@ returns-4 c =
     let at-if2 = c .before .before .before in
     let at-kind = at-if2 .before .before .before in
     let at-read-word = at-kind .before .before in
-    sym (ap asAddress (address-v6-cut _ _ _ _ _ (sym (at-read-word .read-word .ensures) ∙ at-kind .kind .given .1) (at-if2 .if2 .taken) (sym (c .before .before .read-quad .ensures) ∙ c .enum-told3 .given .1)))
+    sym
+    (ap asAddress
+    (address-v6-cut _ _ _ _ _ (sym (at-read-word .read-word .ensures) ∙ at-kind .kind .given .1) (at-if2 .if2 .taken)
+    (sym (c .before .before .read-quad .ensures) ∙ c .enum-told3 .given .1)))
 
 returns-5 : tie.Need-returns-5
 returns-5 c =
@@ -63,10 +72,18 @@ returns-5 c =
     let at-if2 = at-read-quad .before in
     let at-kind = at-if2 .before .before .before in
     let at-read-word = at-kind .before .before in
-    sym (ap asAddress (address-v6 _ _ _ _ _ _ _ _ _ (search needs) (search needs) (search needs) (search needs) (sym (at-read-word .read-word .ensures) ∙ at-kind .kind .given .1) (at-if2 .if2 .taken) (sym (at-read-quad .read-quad .ensures) ∙ c .before .a2 .given .1)))
+    sym
+    (ap asAddress
+    (address-v6 _ _ _ _ _ _ _ _ _ (search needs) (search needs) (search needs) (search needs)
+    (sym (at-read-word .read-word .ensures) ∙ at-kind .kind .given .1) (at-if2 .if2 .taken)
+    (sym (at-read-quad .read-quad .ensures) ∙ c .before .a2 .given .1)))
 
 returns-6 : tie.Need-returns-6
-returns-6 c = sym (ap asAddress (address-other _ _ _ _ (sym (c .before .before .before .before .before .read-word .ensures) ∙ c .before .before .before .kind .given .1) (c .before .if1 .left) (c .if2 .left)))
+returns-6 c =
+    sym
+    (ap asAddress
+    (address-other _ _ _ _ (sym (c .before .before .before .before .before .read-word .ensures) ∙ c .before .before .before .kind .given .1)
+    (c .before .if1 .left) (c .if2 .left)))
 
 pub read-address-spec : {M : Type 1} → statement M
 read-address-spec =

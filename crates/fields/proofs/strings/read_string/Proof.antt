@@ -32,14 +32,20 @@ returns-2 c =
     let at-pass-octets = c .before .before .before in
     let at-length = at-pass-octets .before .before in
     let at-read-word = at-length .before .before in
-    sym (ap asString (text-found _ _ _ _ _ (sym (at-read-word .read-word .ensures) ∙ at-length .length .given .1) (sym (at-pass-octets .pass-octets .ensures) ∙ c .before .next .given .1)))
+    sym
+    (ap asString
+    (text-found _ _ _ _ _ (sym (at-read-word .read-word .ensures) ∙ at-length .length .given .1)
+    (sym (at-pass-octets .pass-octets .ensures) ∙ c .before .next .given .1)))
 
 returns-3 : tie.Need-returns-3
 returns-3 c =
     let at-pass-octets = c .before .before .before in
     let at-length = at-pass-octets .before .before in
     let at-read-word = at-length .before .before in
-    sym (ap asString (text-refused _ _ _ _ _ _ (sym (at-read-word .read-word .ensures) ∙ at-length .length .given .1) (sym (at-pass-octets .pass-octets .ensures) ∙ c .before .why .given .1)))
+    sym
+    (ap asString
+    (text-refused _ _ _ _ _ _ (sym (at-read-word .read-word .ensures) ∙ at-length .length .given .1)
+    (sym (at-pass-octets .pass-octets .ensures) ∙ c .before .why .given .1)))
 
 pub read-string-spec : {M : Type 1} → statement M
 read-string-spec =

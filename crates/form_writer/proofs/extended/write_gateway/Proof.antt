@@ -22,18 +22,25 @@ enum-told c = search needs
 returns : tie.Need-returns
 returns c =
     let entry = c .before .before .before .before .before .before in
-    refused-value _ _ _ (first-fails _ _ (ends-nowhere (entries (decode as-path-type (entry .args .path .now)) (entry .args .count) 0) (length (entry .args .path .now)) _ _ (sym (c .before .before .pass-segments .ensures) ∙ c .enum-told .given .1)))
+    refused-value _ _ _
+    (first-fails _ _
+    (ends-nowhere (entries (decode as-path-type (entry .args .path .now)) (entry .args .count) 0) (length (entry .args .path .now)) _ _
+    (sym (c .before .before .pass-segments .ensures) ∙ c .enum-told .given .1)))
 
 returns-2 : tie.Need-returns-2
 returns-2 c =
     let at-pass-segments = c .before .before .before .before in
     let entry = at-pass-segments .before .before .before .before in
-    refused-value _ _ _ (first-fails _ _ (ends-elsewhere (entries (decode as-path-type (entry .args .path .now)) (entry .args .count) 0) (length (entry .args .path .now)) _ (sym (at-pass-segments .pass-segments .ensures) ∙ c .before .before .passed .given .1) (c .if1 .taken)))
+    refused-value _ _ _
+    (first-fails _ _
+    (ends-elsewhere (entries (decode as-path-type (entry .args .path .now)) (entry .args .count) 0) (length (entry .args .path .now)) _
+    (sym (at-pass-segments .pass-segments .ensures) ∙ c .before .before .passed .given .1) (c .if1 .taken)))
 
 returns-3 : tie.Need-returns-3
 returns-3 c =
     let entry = c .before .before .before .before .before .before .before .before .before in
-    refused-value _ _ _ (second-fails (areEntries as-path-type (entry .args .count) (entry .args .path .now)) _ (too-many (entry .args .communities .now) (c .if2 .taken)))
+    refused-value _ _ _
+    (second-fails (areEntries as-path-type (entry .args .count) (entry .args .path .now)) _ (too-many (entry .args .communities .now) (c .if2 .taken)))
 
 array-read-t18 : tie.Need-array-read-t18
 array-read-t18 c = search needs
@@ -72,7 +79,13 @@ returns-4 c =
     let at-passed = at-if1 .before .before in
     let at-pass-segments = at-passed .before .before in
     let entry = at-pass-segments .before .before .before .before in
-    let passed = sym (at-pass-segments .pass-segments .ensures) ∙ at-passed .passed .given .1 in allowed-value _ _ _ _ _ _ (both-hold _ _ (ends-there (entries (decode as-path-type (entry .args .path .now)) (entry .args .count) 0) (length (entry .args .path .now)) _ passed (at-if1 .if1 .left)) (not-too-many (entry .args .communities .now) (at-if2 .if2 .left))) (gateway-octets (entry .args .t2) (entry .args .count) (entry .args .path .now) (entry .args .communities .now) (entry .args .localpref) (search needs) (path-fours (entry .args .path .now) (entry .args .count) _ passed (at-if1 .if1 .left))) (c .before .before .write-parts .ensures)
+    let passed = sym (at-pass-segments .pass-segments .ensures) ∙ at-passed .passed .given .1 in
+    allowed-value _ _ _ _ _ _
+    (both-hold _ _
+    (ends-there (entries (decode as-path-type (entry .args .path .now)) (entry .args .count) 0) (length (entry .args .path .now)) _ passed
+    (at-if1 .if1 .left)) (not-too-many (entry .args .communities .now) (at-if2 .if2 .left)))
+    (gateway-octets (entry .args .t2) (entry .args .count) (entry .args .path .now) (entry .args .communities .now) (entry .args .localpref) (search needs)
+    (path-fours (entry .args .path .now) (entry .args .count) _ passed (at-if1 .if1 .left))) (c .before .before .write-parts .ensures)
 
 pub write-gateway-spec : {M : Type 1} → statement M
 write-gateway-spec =

@@ -42,7 +42,9 @@ returns-3 c =
     let at-if2 = c .before .before .before .before .before .before .before in
     let at-if1 = at-if2 .before in
     let entry = at-if1 .before .before .before .before in
-    allowed-value _ _ _ _ _ _ (both-hold _ _ (not-too-many (entry .args .src-user .now) (at-if1 .if1 .left)) (not-too-many (entry .args .dst-user .now) (at-if2 .if2 .left))) (user-octets (entry .args .src-user .now) (entry .args .dst-user .now)) (c .before .before .write-parts .ensures)
+    allowed-value _ _ _ _ _ _
+    (both-hold _ _ (not-too-many (entry .args .src-user .now) (at-if1 .if1 .left)) (not-too-many (entry .args .dst-user .now) (at-if2 .if2 .left)))
+    (user-octets (entry .args .src-user .now) (entry .args .dst-user .now)) (c .before .before .write-parts .ensures)
 
 pub write-user-spec : {M : Type 1} → statement M
 write-user-spec =

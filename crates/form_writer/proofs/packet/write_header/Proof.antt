@@ -41,7 +41,8 @@ returns-4 c =
     let at-if3 = c .before .before .before .before .before .before .before in
     let at-if2 = at-if3 .before in
     let at-if1 = at-if2 .before in
-    allowed-value _ _ _ _ _ _ (both-hold _ _ (from-one _ _ (at-if1 .if1 .left) (at-if2 .if2 .left)) (le-leb _ _ (at-if3 .if3 .left))) (header-octets _ _ _) (c .before .before .write-parts .ensures)
+    allowed-value _ _ _ _ _ _ (both-hold _ _ (from-one _ _ (at-if1 .if1 .left) (at-if2 .if2 .left)) (le-leb _ _ (at-if3 .if3 .left)))
+    (header-octets _ _ _) (c .before .before .write-parts .ensures)
 
 pub write-header-spec : {M : Type 1} → statement M
 write-header-spec =

@@ -15,7 +15,9 @@ same-length : tie.Need-same-length
 same-length c = search needs
 
 returns : tie.Need-returns
-returns c = same-octets _ _ _ _ _ (ipv6-octets _ _ _ _ _ _ _ _ _ _ _ _ _ _ (omega arith) (omega arith) (omega arith) (omega arith) (omega arith) (omega arith)) (c .before .before .write-words .ensures)
+returns c =
+    same-octets _ _ _ _ _ (ipv6-octets _ _ _ _ _ _ _ _ _ _ _ _ _ _ (omega arith) (omega arith) (omega arith) (omega arith) (omega arith) (omega arith))
+    (c .before .before .write-words .ensures)
 
 pub write-ipv6-spec : {M : Type 1} → statement M
 write-ipv6-spec =

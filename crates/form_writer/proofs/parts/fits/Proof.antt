@@ -4,7 +4,9 @@ use Rattle.form_writer.proofs.parts.fits.Statement.{statement}
 use Rattle.form_writer.proofs.parts.fits.Tie as tie
 
 returns : tie.Need-returns
-returns c = no-room (c .before .args .room) (c .before .args .a) (c .before .args .b) (c .before .args .c) (c .before .args .d) (c .before .args .e) (c .before .args .f) (omega arith)
+returns c =
+    no-room (c .before .args .room) (c .before .args .a) (c .before .args .b) (c .before .args .c) (c .before .args .d) (c .before .args .e)
+    (c .before .args .f) (omega arith)
 
 returns-2 : tie.Need-returns-2
 returns-2 c =

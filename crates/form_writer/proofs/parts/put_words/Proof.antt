@@ -42,8 +42,13 @@ loop-again c =
     let at-write-word = c .before .before in
     let at-loop-test = at-write-word .before .before .before in
     let at-loop = at-loop-test .before in
-    let at-pre = at-loop .before .before .before in
-    (search needs, omega arith, wrote-length _ _ _ _ _ (at-write-word .write-word .ensures) ∙ at-loop .loop .inv .2, words-next _ _ _ _ _ _ _ _ (at-pre .pre) (at-loop-test .loop-test .taken) (at-loop .loop .inv .1) (at-loop .loop .inv .3) (at-write-word .write-word .ensures))
+    let at-pre = at-loop .before .before .before in (
+      search needs,
+      omega arith,
+      wrote-length _ _ _ _ _ (at-write-word .write-word .ensures) ∙ at-loop .loop .inv .2,
+      words-next _ _ _ _ _ _ _ _ (at-pre .pre) (at-loop-test .loop-test .taken) (at-loop .loop .inv .1) (at-loop .loop .inv .3)
+          (at-write-word .write-word .ensures),
+    )
 
 same-length : tie.Need-same-length Inv-loop μ-loop
 same-length c = c .before .loop .inv .2

@@ -89,7 +89,9 @@ returns c =
     let a = entry .args in
     let fit : joinedSize (a .head .now) (a .first .now) (a .middle .now) (a .second .now) + 0 + 0 ≤ length (a .d .now) = leb-true _ _ (sym (at-fits2 .fits2 .ensures) ∙ at-if1 .if1 .taken) in
     let all-fit : joinedSize (a .head .now) (a .first .now) (a .middle .now) (a .second .now) ≤ length (a .d .now) = omega arith in
-    alone-fits _ _ _ _ (joined-length (a .head .now) (a .first .now) (a .middle .now) (a .second .now)) all-fit (joined-put _ (a .head .now) (a .first .now) (a .middle .now) (a .second .now) _ _ _ _ _ _ all-fit (at-put-words .put-words .ensures) (at-write-octets .write-octets .ensures) (at-put-words2 .put-words2 .ensures) (c .before .before .write-octets2 .ensures))
+    alone-fits _ _ _ _ (joined-length (a .head .now) (a .first .now) (a .middle .now) (a .second .now)) all-fit
+    (joined-put _ (a .head .now) (a .first .now) (a .middle .now) (a .second .now) _ _ _ _ _ _ all-fit (at-put-words .put-words .ensures)
+    (at-write-octets .write-octets .ensures) (at-put-words2 .put-words2 .ensures) (c .before .before .write-octets2 .ensures))
 
 returns-2 : tie.Need-returns-2
 returns-2 c =

@@ -150,13 +150,18 @@ returns c =
     let at-fits2 = at-if1 .before in
     let entry = at-fits2 .before .before .before .before .before .before .before .before in
     let a = entry .args in
-    alone-fits _ _ _ _ (parts-length (a .head .now) (a .first .now) (a .middle .now) (a .list .now) (a .second .now) (a .tail .now)) (leb-true _ _ (sym (at-fits2 .fits2 .ensures) ∙ at-if1 .if1 .taken)) (parts-put _ (a .head .now) (a .first .now) (a .middle .now) (a .list .now) (a .second .now) (a .tail .now) _ _ _ _ (leb-true _ _ (sym (at-fits2 .fits2 .ensures) ∙ at-if1 .if1 .taken)) (at-put-words .put-words .ensures) (at-put-string .put-string .ensures) (at-put-words2 .put-words2 .ensures) (c .before .before .put-string2 .ensures))
+    alone-fits _ _ _ _ (parts-length (a .head .now) (a .first .now) (a .middle .now) (a .list .now) (a .second .now) (a .tail .now))
+    (leb-true _ _ (sym (at-fits2 .fits2 .ensures) ∙ at-if1 .if1 .taken))
+    (parts-put _ (a .head .now) (a .first .now) (a .middle .now) (a .list .now) (a .second .now) (a .tail .now) _ _ _ _
+    (leb-true _ _ (sym (at-fits2 .fits2 .ensures) ∙ at-if1 .if1 .taken)) (at-put-words .put-words .ensures) (at-put-string .put-string .ensures)
+    (at-put-words2 .put-words2 .ensures) (c .before .before .put-string2 .ensures))
 
 returns-2 : tie.Need-returns-2
 returns-2 c =
     let entry = c .before .before .before .before .before .before .before .before .before in
     let a = entry .args in
-    alone-full _ _ _ (parts-length (a .head .now) (a .first .now) (a .middle .now) (a .list .now) (a .second .now) (a .tail .now)) (leb-false _ _ (sym (c .before .fits2 .ensures) ∙ c .if1 .left))
+    alone-full _ _ _ (parts-length (a .head .now) (a .first .now) (a .middle .now) (a .list .now) (a .second .now) (a .tail .now))
+    (leb-false _ _ (sym (c .before .fits2 .ensures) ∙ c .if1 .left))
 
 pub write-parts-spec : {M : Type 1} → statement M
 write-parts-spec =

@@ -26,7 +26,10 @@ enum-told : tie.Need-enum-told Inv-loop μ-loop
 enum-told c = search needs
 
 returns : tie.Need-returns Inv-loop μ-loop
-returns c = c .enum-told .given .1 ∙ sym (passed-stop _ _ _ _ _ (c .before .before .before .loop-test .taken) (sym (c .before .before .pass-sample .ensures) ∙ c .enum-told .given .1)) ∙ c .before .before .before .before .loop .inv
+returns c =
+    c .enum-told .given .1
+    ∙ sym (passed-stop _ _ _ _ _ (c .before .before .before .loop-test .taken) (sym (c .before .before .pass-sample .ensures) ∙ c .enum-told .given .1))
+    ∙ c .before .before .before .before .loop .inv
 
 sub-left : tie.Need-sub-left Inv-loop μ-loop
 sub-left c = search needs

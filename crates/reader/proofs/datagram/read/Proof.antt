@@ -30,21 +30,27 @@ returns-2 c =
     let at-pass-samples = c .before .before .before .before in
     let at-start = at-pass-samples .before .before in
     let at-read-head = at-start .before .before in
-    sym (answer-trailing _ _ (sym (at-read-head .read-head .ensures) ∙ at-start .start .given .1) _ (sym (at-pass-samples .pass-samples .ensures) ∙ c .before .before .end .given .1) (c .if1 .taken))
+    sym
+    (answer-trailing _ _ (sym (at-read-head .read-head .ensures) ∙ at-start .start .given .1) _
+    (sym (at-pass-samples .pass-samples .ensures) ∙ c .before .before .end .given .1) (c .if1 .taken))
 
 returns-3 : tie.Need-returns-3
 returns-3 c =
     let at-pass-samples = c .before .before .before in
     let at-start = at-pass-samples .before .before in
     let at-read-head = at-start .before .before in
-    sym (answer-samples-refused _ _ (sym (at-read-head .read-head .ensures) ∙ at-start .start .given .1) _ _ (sym (at-pass-samples .pass-samples .ensures) ∙ c .before .why .given .1))
+    sym
+    (answer-samples-refused _ _ (sym (at-read-head .read-head .ensures) ∙ at-start .start .given .1) _ _
+    (sym (at-pass-samples .pass-samples .ensures) ∙ c .before .why .given .1))
 
 returns-4 : tie.Need-returns-4
 returns-4 c =
     let at-pass-samples = c .before .before .before .before in
     let at-start = at-pass-samples .before .before in
     let at-read-head = at-start .before .before in
-    sym (answer-whole _ _ (sym (at-read-head .read-head .ensures) ∙ at-start .start .given .1) _ (sym (at-pass-samples .pass-samples .ensures) ∙ c .before .before .end .given .1) (c .if1 .left))
+    sym
+    (answer-whole _ _ (sym (at-read-head .read-head .ensures) ∙ at-start .start .given .1) _
+    (sym (at-pass-samples .pass-samples .ensures) ∙ c .before .before .end .given .1) (c .if1 .left))
 
 pub read-spec : {M : Type 1} → statement M
 read-spec =

@@ -21,7 +21,11 @@ returns-2 : tie.Need-returns-2
 returns-2 c = sym (ap asHead (head-cut _ (c .before .before .before .if1 .left) _ (sym (c .before .before .read-word .ensures) ∙ c .enum-told .given .1)))
 
 returns-3 : tie.Need-returns-3
-returns-3 c = sym (ap asHead (head-version _ (c .before .before .before .before .before .if1 .left) _ _ (sym (c .before .before .before .before .read-word .ensures) ∙ c .before .before .version .given .1) (c .if2 .taken)))
+returns-3 c =
+    sym
+    (ap asHead
+    (head-version _ (c .before .before .before .before .before .if1 .left) _ _
+    (sym (c .before .before .before .before .read-word .ensures) ∙ c .before .before .version .given .1) (c .if2 .taken)))
 
 read-address-requires : tie.Need-read-address-requires
 read-address-requires c κs = search needs
@@ -49,7 +53,10 @@ returns-4 c =
     let at-version = at-if2 .before .before in
     let at-read-word = at-version .before .before in
     let at-if1 = at-read-word .before in
-    sym (ap asHead (head-cut-1 _ (at-if1 .if1 .left) _ _ (sym (at-read-word .read-word .ensures) ∙ at-version .version .given .1) (at-if2 .if2 .left) _ _ (sym (at-read-address .read-address .ensures) ∙ at-agent .agent .given .1) _ (sym (c .before .before .read-word2 .ensures) ∙ c .enum-told2 .given .1)))
+    sym
+    (ap asHead
+    (head-cut-1 _ (at-if1 .if1 .left) _ _ (sym (at-read-word .read-word .ensures) ∙ at-version .version .given .1) (at-if2 .if2 .left) _ _
+    (sym (at-read-address .read-address .ensures) ∙ at-agent .agent .given .1) _ (sym (c .before .before .read-word2 .ensures) ∙ c .enum-told2 .given .1)))
 
 read-word-requires-3 : tie.Need-read-word-requires-3
 read-word-requires-3 c κs = search needs
@@ -70,7 +77,12 @@ returns-5 c =
     let at-version = at-if2 .before .before in
     let at-read-word = at-version .before .before in
     let at-if1 = at-read-word .before in
-    sym (ap asHead (head-cut-2 _ (at-if1 .if1 .left) _ _ (sym (at-read-word .read-word .ensures) ∙ at-version .version .given .1) (at-if2 .if2 .left) _ _ (sym (at-read-address .read-address .ensures) ∙ at-agent .agent .given .1) _ _ (sym (at-read-word2 .read-word2 .ensures) ∙ at-sequence-number .sequence-number .given .1) _ (sym (c .before .before .read-word3 .ensures) ∙ c .enum-told3 .given .1)))
+    sym
+    (ap asHead
+    (head-cut-2 _ (at-if1 .if1 .left) _ _ (sym (at-read-word .read-word .ensures) ∙ at-version .version .given .1) (at-if2 .if2 .left) _ _
+    (sym (at-read-address .read-address .ensures) ∙ at-agent .agent .given .1) _ _
+    (sym (at-read-word2 .read-word2 .ensures) ∙ at-sequence-number .sequence-number .given .1) _
+    (sym (c .before .before .read-word3 .ensures) ∙ c .enum-told3 .given .1)))
 
 read-word-requires-4 : tie.Need-read-word-requires-4
 read-word-requires-4 c κs = search needs
@@ -93,7 +105,12 @@ returns-6 c =
     let at-version = at-if2 .before .before in
     let at-read-word = at-version .before .before in
     let at-if1 = at-read-word .before in
-    sym (ap asHead (head-cut-3 _ (at-if1 .if1 .left) _ _ (sym (at-read-word .read-word .ensures) ∙ at-version .version .given .1) (at-if2 .if2 .left) _ _ (sym (at-read-address .read-address .ensures) ∙ at-agent .agent .given .1) _ _ (sym (at-read-word2 .read-word2 .ensures) ∙ at-sequence-number .sequence-number .given .1) _ _ (sym (at-read-word3 .read-word3 .ensures) ∙ at-uptime .uptime .given .1) _ (sym (c .before .before .read-word4 .ensures) ∙ c .enum-told4 .given .1)))
+    sym
+    (ap asHead
+    (head-cut-3 _ (at-if1 .if1 .left) _ _ (sym (at-read-word .read-word .ensures) ∙ at-version .version .given .1) (at-if2 .if2 .left) _ _
+    (sym (at-read-address .read-address .ensures) ∙ at-agent .agent .given .1) _ _
+    (sym (at-read-word2 .read-word2 .ensures) ∙ at-sequence-number .sequence-number .given .1) _ _
+    (sym (at-read-word3 .read-word3 .ensures) ∙ at-uptime .uptime .given .1) _ (sym (c .before .before .read-word4 .ensures) ∙ c .enum-told4 .given .1)))
 
 returns-7 : tie.Need-returns-7
 returns-7 c =
@@ -102,7 +119,10 @@ returns-7 c =
     let at-version = at-if2 .before .before in
     let at-read-word = at-version .before .before in
     let at-if1 = at-read-word .before in
-    sym (ap asHead (head-agent-refused _ (at-if1 .if1 .left) _ _ (sym (at-read-word .read-word .ensures) ∙ at-version .version .given .1) (at-if2 .if2 .left) _ _ (sym (at-read-address .read-address .ensures) ∙ c .before .why .given .1)))
+    sym
+    (ap asHead
+    (head-agent-refused _ (at-if1 .if1 .left) _ _ (sym (at-read-word .read-word .ensures) ∙ at-version .version .given .1) (at-if2 .if2 .left) _ _
+    (sym (at-read-address .read-address .ensures) ∙ c .before .why .given .1)))
 
 returns-8 : tie.Need-returns-8
 returns-8 c =
@@ -117,7 +137,12 @@ returns-8 c =
     let at-version = at-if2 .before .before in
     let at-read-word = at-version .before .before in
     let at-if1 = at-read-word .before in
-    sym (ap asHead (head-found _ (at-if1 .if1 .left) _ _ (sym (at-read-word .read-word .ensures) ∙ at-version .version .given .1) (at-if2 .if2 .left) _ _ (sym (at-read-address .read-address .ensures) ∙ at-agent .agent .given .1) _ _ (sym (at-read-word2 .read-word2 .ensures) ∙ at-sequence-number .sequence-number .given .1) _ _ (sym (at-read-word3 .read-word3 .ensures) ∙ at-uptime .uptime .given .1) _ _ (sym (at-read-word4 .read-word4 .ensures) ∙ c .before .count .given .1)))
+    sym
+    (ap asHead
+    (head-found _ (at-if1 .if1 .left) _ _ (sym (at-read-word .read-word .ensures) ∙ at-version .version .given .1) (at-if2 .if2 .left) _ _
+    (sym (at-read-address .read-address .ensures) ∙ at-agent .agent .given .1) _ _
+    (sym (at-read-word2 .read-word2 .ensures) ∙ at-sequence-number .sequence-number .given .1) _ _
+    (sym (at-read-word3 .read-word3 .ensures) ∙ at-uptime .uptime .given .1) _ _ (sym (at-read-word4 .read-word4 .ensures) ∙ c .before .count .given .1)))
 
 pub read-head-spec : {M : Type 1} → statement M
 read-head-spec =

@@ -17,13 +17,18 @@ enum-told : tie.Need-enum-told
 enum-told c = search needs
 
 returns : tie.Need-returns
-returns c = c .enum-told .given .1 ∙ sym (passed-then-refused _ _ _ _ _ _ (passed-run _ _ _ _ _ refl (sym (c .before .before .pass-run .ensures) ∙ c .enum-told .given .1)))
+returns c =
+    c .enum-told .given .1
+    ∙ sym (passed-then-refused _ _ _ _ _ _ (passed-run _ _ _ _ _ refl (sym (c .before .before .pass-run .ensures) ∙ c .enum-told .given .1)))
 
 pass-counters-requires : tie.Need-pass-counters-requires
 pass-counters-requires c κs = search needs
 
 returns-2 : tie.Need-returns-2
-returns-2 c = c .pass-counters .ensures ∙ sym (passed-then _ _ _ _ _ (passed-run _ _ _ _ _ refl (sym (c .before .before .before .before .pass-run .ensures) ∙ c .before .before .words .given .1)))
+returns-2 c =
+    c .pass-counters .ensures
+    ∙ sym
+    (passed-then _ _ _ _ _ (passed-run _ _ _ _ _ refl (sym (c .before .before .before .before .pass-run .ensures) ∙ c .before .before .words .given .1)))
 
 pub pass-counters-sample-spec : {M : Type 1} → statement M
 pass-counters-sample-spec =

@@ -17,7 +17,9 @@ enum-told : tie.Need-enum-told
 enum-told c = search needs
 
 returns : tie.Need-returns
-returns c = c .enum-told .given .1 ∙ sym (passed-then-refused _ _ _ _ _ _ (passed-run _ _ _ _ _ refl (sym (c .before .before .pass-run .ensures) ∙ c .enum-told .given .1)))
+returns c =
+    c .enum-told .given .1
+    ∙ sym (passed-then-refused _ _ _ _ _ _ (passed-run _ _ _ _ _ refl (sym (c .before .before .pass-run .ensures) ∙ c .enum-told .given .1)))
 
 pass-packet-requires : tie.Need-pass-packet-requires
 pass-packet-requires c κs = search needs
@@ -29,7 +31,13 @@ enum-told-2 : tie.Need-enum-told-2
 enum-told-2 c = search needs
 
 returns-2 : tie.Need-returns-2
-returns-2 c = c .enum-told2 .given .1 ∙ sym (passed-then _ _ _ _ _ (passed-run _ _ _ _ _ refl (sym (c .before .before .before .before .before .before .pass-run .ensures) ∙ c .before .before .before .before .words .given .1)) ∙ passed-then-refused _ _ _ _ _ _ (sym (c .before .before .pass-packet .ensures) ∙ c .enum-told2 .given .1))
+returns-2 c =
+    c .enum-told2 .given .1
+    ∙ sym
+    (passed-then _ _ _ _ _
+    (passed-run _ _ _ _ _ refl
+    (sym (c .before .before .before .before .before .before .pass-run .ensures) ∙ c .before .before .before .before .words .given .1))
+    ∙ passed-then-refused _ _ _ _ _ _ (sym (c .before .before .pass-packet .ensures) ∙ c .enum-told2 .given .1))
 
 read-word-requires : tie.Need-read-word-requires
 read-word-requires c κs = search needs
@@ -46,7 +54,10 @@ returns-3 c =
     let at-pass-packet = at-packet .before .before in
     let at-words = at-pass-packet .before .before in
     let at-pass-run = at-words .before .before in
-    sym (passed-then _ _ _ _ _ (passed-run _ _ _ _ _ refl (sym (at-pass-run .pass-run .ensures) ∙ at-words .words .given .1)) ∙ passed-then _ _ _ _ _ (sym (at-pass-packet .pass-packet .ensures) ∙ at-packet .packet .given .1) ∙ passed-list-cut _ _ _ _ (sym (c .before .before .read-word .ensures) ∙ c .enum-told3 .given .1))
+    sym
+    (passed-then _ _ _ _ _ (passed-run _ _ _ _ _ refl (sym (at-pass-run .pass-run .ensures) ∙ at-words .words .given .1))
+    ∙ passed-then _ _ _ _ _ (sym (at-pass-packet .pass-packet .ensures) ∙ at-packet .packet .given .1)
+    ∙ passed-list-cut _ _ _ _ (sym (c .before .before .read-word .ensures) ∙ c .enum-told3 .given .1))
 
 pass-extended-requires : tie.Need-pass-extended-requires
 pass-extended-requires c κs = search needs
@@ -58,7 +69,11 @@ returns-4 c =
     let at-pass-packet = at-packet .before .before in
     let at-words = at-pass-packet .before .before in
     let at-pass-run = at-words .before .before in
-    c .pass-extended .ensures ∙ sym (passed-then _ _ _ _ _ (passed-run _ _ _ _ _ refl (sym (at-pass-run .pass-run .ensures) ∙ at-words .words .given .1)) ∙ passed-then _ _ _ _ _ (sym (at-pass-packet .pass-packet .ensures) ∙ at-packet .packet .given .1) ∙ passed-list _ _ _ _ _ (sym (at-read-word .read-word .ensures) ∙ c .before .before .count .given .1))
+    c .pass-extended .ensures
+    ∙ sym
+    (passed-then _ _ _ _ _ (passed-run _ _ _ _ _ refl (sym (at-pass-run .pass-run .ensures) ∙ at-words .words .given .1))
+    ∙ passed-then _ _ _ _ _ (sym (at-pass-packet .pass-packet .ensures) ∙ at-packet .packet .given .1)
+    ∙ passed-list _ _ _ _ _ (sym (at-read-word .read-word .ensures) ∙ c .before .before .count .given .1))
 
 pub pass-flow-spec : {M : Type 1} → statement M
 pass-flow-spec =

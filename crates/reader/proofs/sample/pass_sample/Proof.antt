@@ -24,13 +24,25 @@ pass-counters-sample-requires : tie.Need-pass-counters-sample-requires
 pass-counters-sample-requires c κs = search needs
 
 returns-2 : tie.Need-returns-2
-returns-2 c = c .pass-flow .ensures ∙ sym (passed-arm _ _ _ _ _ _ _ (sym (c .before .before .before .before .before .read-word .ensures) ∙ c .before .before .before .kind .given .1) 1 (c .before .match2 .keys1) refl)
+returns-2 c =
+    c .pass-flow .ensures
+    ∙ sym
+    (passed-arm _ _ _ _ _ _ _ (sym (c .before .before .before .before .before .read-word .ensures) ∙ c .before .before .before .kind .given .1) 1
+    (c .before .match2 .keys1) refl)
 
 returns-3 : tie.Need-returns-3
-returns-3 c = c .pass-counters-sample .ensures ∙ sym (passed-arm _ _ _ _ _ _ _ (sym (c .before .before .before .before .before .read-word .ensures) ∙ c .before .before .before .kind .given .1) 2 (c .before .match2 .keys2) refl)
+returns-3 c =
+    c .pass-counters-sample .ensures
+    ∙ sym
+    (passed-arm _ _ _ _ _ _ _ (sym (c .before .before .before .before .before .read-word .ensures) ∙ c .before .before .before .kind .given .1) 2
+    (c .before .match2 .keys2) refl)
 
 returns-4 : tie.Need-returns-4
-returns-4 c = sym (passed-view _ _ _ _ _ (sample-other _ _ _ _ (sym (c .before .before .before .before .read-word .ensures) ∙ c .before .before .kind .given .1) (c .match2 .rest .0 .1) (c .match2 .rest .1)))
+returns-4 c =
+    sym
+    (passed-view _ _ _ _ _
+    (sample-other _ _ _ _ (sym (c .before .before .before .before .read-word .ensures) ∙ c .before .before .kind .given .1) (c .match2 .rest .0 .1)
+    (c .match2 .rest .1)))
 
 pub pass-sample-spec : {M : Type 1} → statement M
 pass-sample-spec =

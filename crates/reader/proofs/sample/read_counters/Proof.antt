@@ -28,7 +28,13 @@ enum-told-2 : tie.Need-enum-told-2
 enum-told-2 c = search needs
 
 returns-2 : tie.Need-returns-2
-returns-2 c = sym (ap asCounters (counters-cut _ _ _ (reads-found (word-then (sym (c .before .before .before .before .before .before .read-word .ensures) ∙ c .before .before .before .before .sequence-number .given .1) (word-cut (sym (c .before .before .read-word2 .ensures) ∙ c .enum-told2 .given .1))))))
+returns-2 c =
+    sym
+    (ap asCounters
+    (counters-cut _ _ _
+    (reads-found
+    (word-then (sym (c .before .before .before .before .before .before .read-word .ensures) ∙ c .before .before .before .before .sequence-number .given .1)
+    (word-cut (sym (c .before .before .read-word2 .ensures) ∙ c .enum-told2 .given .1))))))
 
 read-word-requires-3 : tie.Need-read-word-requires-3
 read-word-requires-3 c κs = search needs
@@ -45,7 +51,13 @@ returns-3 c =
     let at-read-word2 = at-source-id .before .before in
     let at-sequence-number = at-read-word2 .before .before in
     let at-read-word = at-sequence-number .before .before in
-    sym (ap asCounters (counters-cut _ _ _ (reads-found (word-then (sym (at-read-word .read-word .ensures) ∙ at-sequence-number .sequence-number .given .1) (word-then (sym (at-read-word2 .read-word2 .ensures) ∙ at-source-id .source-id .given .1) (word-cut (sym (c .before .before .read-word3 .ensures) ∙ c .enum-told3 .given .1)))))))
+    sym
+    (ap asCounters
+    (counters-cut _ _ _
+    (reads-found
+    (word-then (sym (at-read-word .read-word .ensures) ∙ at-sequence-number .sequence-number .given .1)
+    (word-then (sym (at-read-word2 .read-word2 .ensures) ∙ at-source-id .source-id .given .1)
+    (word-cut (sym (c .before .before .read-word3 .ensures) ∙ c .enum-told3 .given .1)))))))
 
 read-counter-body-requires : tie.Need-read-counter-body-requires
 read-counter-body-requires c κs = search needs
@@ -65,7 +77,12 @@ returns-4 c =
     let at-read-word2 = at-source-id .before .before in
     let at-sequence-number = at-read-word2 .before .before in
     let at-read-word = at-sequence-number .before .before in
-    sym (ap asCounters (counters-refused _ _ _ _ _ _ _ _ (sym (at-read-word .read-word .ensures) ∙ at-sequence-number .sequence-number .given .1) (sym (at-read-word2 .read-word2 .ensures) ∙ at-source-id .source-id .given .1) (sym (at-read-word3 .read-word3 .ensures) ∙ at-sampling-interval .sampling-interval .given .1) _ _ (sym (at-read-counter-body .read-counter-body .ensures) ∙ c .before .why .given .1)))
+    sym
+    (ap asCounters
+    (counters-refused _ _ _ _ _ _ _ _ (sym (at-read-word .read-word .ensures) ∙ at-sequence-number .sequence-number .given .1)
+    (sym (at-read-word2 .read-word2 .ensures) ∙ at-source-id .source-id .given .1)
+    (sym (at-read-word3 .read-word3 .ensures) ∙ at-sampling-interval .sampling-interval .given .1) _ _
+    (sym (at-read-counter-body .read-counter-body .ensures) ∙ c .before .why .given .1)))
 
 returns-5 : tie.Need-returns-5
 returns-5 c =
@@ -76,7 +93,12 @@ returns-5 c =
     let at-read-word2 = at-source-id .before .before in
     let at-sequence-number = at-read-word2 .before .before in
     let at-read-word = at-sequence-number .before .before in
-    sym (ap asCounters (counters-found _ _ _ _ _ _ _ _ (sym (at-read-word .read-word .ensures) ∙ at-sequence-number .sequence-number .given .1) (sym (at-read-word2 .read-word2 .ensures) ∙ at-source-id .source-id .given .1) (sym (at-read-word3 .read-word3 .ensures) ∙ at-sampling-interval .sampling-interval .given .1) _ _ (sym (at-read-counter-body .read-counter-body .ensures) ∙ c .before .counters .given .1)))
+    sym
+    (ap asCounters
+    (counters-found _ _ _ _ _ _ _ _ (sym (at-read-word .read-word .ensures) ∙ at-sequence-number .sequence-number .given .1)
+    (sym (at-read-word2 .read-word2 .ensures) ∙ at-source-id .source-id .given .1)
+    (sym (at-read-word3 .read-word3 .ensures) ∙ at-sampling-interval .sampling-interval .given .1) _ _
+    (sym (at-read-counter-body .read-counter-body .ensures) ∙ c .before .counters .given .1)))
 
 pub read-counters-spec : {M : Type 1} → statement M
 read-counters-spec =

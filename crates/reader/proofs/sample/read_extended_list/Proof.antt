@@ -32,14 +32,20 @@ returns-2 c =
     let at-pass-extended = c .before .before .before in
     let at-count = at-pass-extended .before .before in
     let at-read-word = at-count .before .before in
-    sym (ap asFlow (list-refused _ _ _ _ _ _ _ _ (sym (at-read-word .read-word .ensures) ∙ at-count .count .given .1) (sym (at-pass-extended .pass-extended .ensures) ∙ c .before .why .given .1)))
+    sym
+    (ap asFlow
+    (list-refused _ _ _ _ _ _ _ _ (sym (at-read-word .read-word .ensures) ∙ at-count .count .given .1)
+    (sym (at-pass-extended .pass-extended .ensures) ∙ c .before .why .given .1)))
 
 returns-3 : tie.Need-returns-3
 returns-3 c =
     let at-pass-extended = c .before .before .before in
     let at-count = at-pass-extended .before .before in
     let at-read-word = at-count .before .before in
-    sym (ap asFlow (list-found _ _ _ _ _ _ _ (sym (at-read-word .read-word .ensures) ∙ at-count .count .given .1) (sym (at-pass-extended .pass-extended .ensures) ∙ c .before .next .given .1)))
+    sym
+    (ap asFlow
+    (list-found _ _ _ _ _ _ _ (sym (at-read-word .read-word .ensures) ∙ at-count .count .given .1)
+    (sym (at-pass-extended .pass-extended .ensures) ∙ c .before .next .given .1)))
 
 pub read-extended-list-spec : {M : Type 1} → statement M
 read-extended-list-spec =

@@ -34,14 +34,21 @@ returns-2 c =
     let at-read-packet = c .before .before .before in
     let at-words = at-read-packet .before .before in
     let at-read-flow-words = at-words .before .before in
-    sym (ap asFlow (flow-packet-refused _ _ _ _ _ _ (sym (at-read-flow-words .read-flow-words .ensures) ∙ at-words .words .given .1) (sym (at-read-packet .read-packet .ensures) ∙ c .before .why2 .given .1)))
+    sym
+    (ap asFlow
+    (flow-packet-refused _ _ _ _ _ _ (sym (at-read-flow-words .read-flow-words .ensures) ∙ at-words .words .given .1)
+    (sym (at-read-packet .read-packet .ensures) ∙ c .before .why2 .given .1)))
 
 returns-3 : tie.Need-returns-3
 returns-3 c =
     let at-read-packet = c .before .before .before .before in
     let at-words = at-read-packet .before .before in
     let at-read-flow-words = at-words .before .before in
-    c .read-extended-list .ensures ∙ sym (ap asFlow (flow-list _ _ _ _ _ _ (sym (at-read-flow-words .read-flow-words .ensures) ∙ at-words .words .given .1) (sym (at-read-packet .read-packet .ensures) ∙ c .before .before .packet-data .given .1)))
+    c .read-extended-list .ensures
+    ∙ sym
+    (ap asFlow
+    (flow-list _ _ _ _ _ _ (sym (at-read-flow-words .read-flow-words .ensures) ∙ at-words .words .given .1)
+    (sym (at-read-packet .read-packet .ensures) ∙ c .before .before .packet-data .given .1)))
 
 pub read-flow-spec : {M : Type 1} → statement M
 read-flow-spec =

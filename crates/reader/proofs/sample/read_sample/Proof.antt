@@ -31,7 +31,8 @@ sample-to-requires c κs =
     let at-if1 = at-read-flow .before in
     let at-kind = at-if1 .before .before in
     let at-read-word = at-kind .before .before in
-    sample-flow-behind _ _ _ _ (sym (at-read-word .read-word .ensures) ∙ at-kind .kind .given .1) (at-if1 .if1 .taken) _ _ (sym (at-read-flow .read-flow .ensures) ∙ c .before .flow .given .1)
+    sample-flow-behind _ _ _ _ (sym (at-read-word .read-word .ensures) ∙ at-kind .kind .given .1) (at-if1 .if1 .taken) _ _
+    (sym (at-read-flow .read-flow .ensures) ∙ c .before .flow .given .1)
 
 returns-2 : tie.Need-returns-2
 returns-2 c =
@@ -39,7 +40,9 @@ returns-2 c =
     let at-if1 = at-read-flow .before in
     let at-kind = at-if1 .before .before in
     let at-read-word = at-kind .before .before in
-    rw (sample-flow-refused _ _ _ _ (sym (at-read-word .read-word .ensures) ∙ at-kind .kind .given .1) (at-if1 .if1 .taken) _ _ (sym (at-read-flow .read-flow .ensures) ∙ c .before .why .given .1))
+    rw
+    (sample-flow-refused _ _ _ _ (sym (at-read-word .read-word .ensures) ∙ at-kind .kind .given .1) (at-if1 .if1 .taken) _ _
+    (sym (at-read-flow .read-flow .ensures) ∙ c .before .why .given .1))
 
 returns-3 : tie.Need-returns-3
 returns-3 c =
@@ -47,7 +50,9 @@ returns-3 c =
     let at-if1 = at-read-flow .before in
     let at-kind = at-if1 .before .before in
     let at-read-word = at-kind .before .before in
-    rw (sample-flow _ _ _ _ (sym (at-read-word .read-word .ensures) ∙ at-kind .kind .given .1) (at-if1 .if1 .taken) _ _ (sym (at-read-flow .read-flow .ensures) ∙ c .before .before .flow .given .1)) (c .sample-to .ensures)
+    rw
+    (sample-flow _ _ _ _ (sym (at-read-word .read-word .ensures) ∙ at-kind .kind .given .1) (at-if1 .if1 .taken) _ _
+    (sym (at-read-flow .read-flow .ensures) ∙ c .before .before .flow .given .1)) (c .sample-to .ensures)
 
 read-counters-requires : tie.Need-read-counters-requires
 read-counters-requires c κs = search needs
@@ -64,7 +69,8 @@ sample-to-requires-2 c κs =
     let at-if2 = at-read-counters .before in
     let at-kind = at-if2 .before .before .before in
     let at-read-word = at-kind .before .before in
-    sample-counters-behind _ _ _ _ (sym (at-read-word .read-word .ensures) ∙ at-kind .kind .given .1) (at-if2 .if2 .taken) _ _ (sym (at-read-counters .read-counters .ensures) ∙ c .before .counters .given .1)
+    sample-counters-behind _ _ _ _ (sym (at-read-word .read-word .ensures) ∙ at-kind .kind .given .1) (at-if2 .if2 .taken) _ _
+    (sym (at-read-counters .read-counters .ensures) ∙ c .before .counters .given .1)
 
 returns-4 : tie.Need-returns-4
 returns-4 c =
@@ -72,7 +78,9 @@ returns-4 c =
     let at-if2 = at-read-counters .before in
     let at-kind = at-if2 .before .before .before in
     let at-read-word = at-kind .before .before in
-    rw (sample-counters-refused _ _ _ _ (sym (at-read-word .read-word .ensures) ∙ at-kind .kind .given .1) (at-if2 .if2 .taken) _ _ (sym (at-read-counters .read-counters .ensures) ∙ c .before .why2 .given .1))
+    rw
+    (sample-counters-refused _ _ _ _ (sym (at-read-word .read-word .ensures) ∙ at-kind .kind .given .1) (at-if2 .if2 .taken) _ _
+    (sym (at-read-counters .read-counters .ensures) ∙ c .before .why2 .given .1))
 
 returns-5 : tie.Need-returns-5
 returns-5 c =
@@ -80,10 +88,15 @@ returns-5 c =
     let at-if2 = at-read-counters .before in
     let at-kind = at-if2 .before .before .before in
     let at-read-word = at-kind .before .before in
-    rw (sample-counters _ _ _ _ (sym (at-read-word .read-word .ensures) ∙ at-kind .kind .given .1) (at-if2 .if2 .taken) _ _ (sym (at-read-counters .read-counters .ensures) ∙ c .before .before .counters .given .1)) (c .sample-to2 .ensures)
+    rw
+    (sample-counters _ _ _ _ (sym (at-read-word .read-word .ensures) ∙ at-kind .kind .given .1) (at-if2 .if2 .taken) _ _
+    (sym (at-read-counters .read-counters .ensures) ∙ c .before .before .counters .given .1)) (c .sample-to2 .ensures)
 
 returns-6 : tie.Need-returns-6
-returns-6 c = rw (sample-other _ _ _ _ (sym (c .before .before .before .before .before .read-word .ensures) ∙ c .before .before .before .kind .given .1) (c .before .if1 .left) (c .if2 .left))
+returns-6 c =
+    rw
+    (sample-other _ _ _ _ (sym (c .before .before .before .before .before .read-word .ensures) ∙ c .before .before .before .kind .given .1)
+    (c .before .if1 .left) (c .if2 .left))
 
 pub read-sample-spec : {M : Type 1} → statement M
 read-sample-spec =

@@ -31,7 +31,9 @@ shared-slice-read-fits-width-2 : tie.Need-shared-slice-read-fits-width-2 Inv-loo
 shared-slice-read-fits-width-2 c = search needs
 
 fits-width-requires : tie.Need-fits-width-requires Inv-loop μ-loop
-fits-width-requires c κs = first-width (c .before .before .before .before .before .before .before .args .widths .now) _ (c .before .before .loop-test .taken) (c .before .before .before .loop .inv .1) .0
+fits-width-requires c κs =
+    first-width (c .before .before .before .before .before .before .before .args .widths .now) _ (c .before .before .loop-test .taken)
+    (c .before .before .before .loop .inv .1) .0
 
 add-i : tie.Need-add-i Inv-loop μ-loop
 add-i c = search needs
@@ -44,8 +46,13 @@ loop-again c =
     let at-loop-test = c .before .before .before .before in
     let at-loop = at-loop-test .before in
     let at-if1 = at-loop .before in
-    let entry = at-if1 .before .before .before in
-    (search needs, first-width (entry .args .widths .now) _ (at-loop-test .loop-test .taken) (at-loop .loop .inv .1) .1, fit-more (entry .args .widths .now) (entry .args .numbers .now) _ (at-loop-test .loop-test .taken) (at-if1 .if1 .left) (sym (c .before .fits-width .ensures) ∙ c .if2 .taken) ∙ at-loop .loop .inv .2)
+    let entry = at-if1 .before .before .before in (
+      search needs,
+      first-width (entry .args .widths .now) _ (at-loop-test .loop-test .taken) (at-loop .loop .inv .1) .1,
+      fit-more (entry .args .widths .now) (entry .args .numbers .now) _ (at-loop-test .loop-test .taken) (at-if1 .if1 .left)
+          (sym (c .before .fits-width .ensures) ∙ c .if2 .taken)
+          ∙ at-loop .loop .inv .2,
+    )
 
 returns-2 : tie.Need-returns-2 Inv-loop μ-loop
 returns-2 c =
@@ -53,7 +60,9 @@ returns-2 c =
     let at-loop = at-loop-test .before in
     let at-if1 = at-loop .before in
     let entry = at-if1 .before .before .before in
-    fit-stop (entry .args .widths .now) (entry .args .numbers .now) _ (at-loop-test .loop-test .taken) (at-if1 .if1 .left) (sym (c .before .fits-width .ensures) ∙ c .if2 .left) ∙ at-loop .loop .inv .2
+    fit-stop (entry .args .widths .now) (entry .args .numbers .now) _ (at-loop-test .loop-test .taken) (at-if1 .if1 .left)
+    (sym (c .before .fits-width .ensures) ∙ c .if2 .left)
+    ∙ at-loop .loop .inv .2
 
 returns-3 : tie.Need-returns-3 Inv-loop μ-loop
 returns-3 c =

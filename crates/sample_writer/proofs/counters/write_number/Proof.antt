@@ -27,7 +27,9 @@ same-length-2 : tie.Need-same-length-2
 same-length-2 c = search needs
 
 returns-2 : tie.Need-returns-2
-returns-2 c = let w = word-width _ (c .before .before .before .before .before .before .pre .0) (c .before .before .before .before .if1 .left) in c .before .before .write-word .ensures ∙ rw w
+returns-2 c =
+    let w = word-width _ (c .before .before .before .before .before .before .pre .0) (c .before .before .before .before .if1 .left) in
+    c .before .before .write-word .ensures ∙ rw w
 
 pub write-number-spec : {M : Type 1} → statement M
 write-number-spec =

@@ -14,7 +14,8 @@ each-fits-requires c κs =
 returns : tie.Need-returns
 returns c =
     let entry = c .before .before .before .before .before .before .before in
-    numbers-full (entry .args .d .now) (entry .args .head .now) (entry .args .widths .now) (entry .args .numbers .now) (entry .args .total) (entry .pre .1) (entry .pre .2) (sym (c .before .before .each-fits .ensures) ∙ c .before .if1 .taken) (c .if2 .taken)
+    numbers-full (entry .args .d .now) (entry .args .head .now) (entry .args .widths .now) (entry .args .numbers .now) (entry .args .total)
+    (entry .pre .1) (entry .pre .2) (sym (c .before .before .each-fits .ensures) ∙ c .before .if1 .taken) (c .if2 .taken)
 
 write-words-requires : tie.Need-write-words-requires
 write-words-requires c κs = search needs
@@ -25,7 +26,8 @@ put-numbers-requires c κs =
     let at-if1 = at-write-words .before .before .before in
     let at-each-fits = at-if1 .before in
     let entry = at-each-fits .before .before .before .before .before in
-    let p = head-put _ (entry .args .head .now) _ _ (entry .pre .1) (omega arith) (at-write-words .write-words .ensures) in (widths-are (entry .args .widths .now) (entry .pre .0), fits-told _ _ (sym (at-each-fits .each-fits .ensures) ∙ at-if1 .if1 .taken), omega (arith, p .long))
+    let p = head-put _ (entry .args .head .now) _ _ (entry .pre .1) (omega arith) (at-write-words .write-words .ensures) in
+    (widths-are (entry .args .widths .now) (entry .pre .0), fits-told _ _ (sym (at-each-fits .each-fits .ensures) ∙ at-if1 .if1 .taken), omega (arith, p .long))
 
 same-length : tie.Need-same-length
 same-length c = search needs
@@ -37,7 +39,10 @@ returns-2 c =
     let at-if1 = at-if2 .before in
     let at-each-fits = at-if1 .before in
     let entry = at-each-fits .before .before .before .before .before in
-    numbers-done (entry .args .d .now) (entry .args .head .now) (entry .args .widths .now) (entry .args .numbers .now) (entry .args .total) (entry .pre .1) (entry .pre .2) _ _ (sym (at-each-fits .each-fits .ensures) ∙ at-if1 .if1 .taken) (at-if2 .if2 .left) (head-put _ (entry .args .head .now) _ _ (entry .pre .1) (omega arith) (at-write-words .write-words .ensures)) (c .before .before .put-numbers .ensures)
+    numbers-done (entry .args .d .now) (entry .args .head .now) (entry .args .widths .now) (entry .args .numbers .now) (entry .args .total)
+    (entry .pre .1) (entry .pre .2) _ _ (sym (at-each-fits .each-fits .ensures) ∙ at-if1 .if1 .taken) (at-if2 .if2 .left)
+    (head-put _ (entry .args .head .now) _ _ (entry .pre .1) (omega arith) (at-write-words .write-words .ensures))
+    (c .before .before .put-numbers .ensures)
 
 returns-3 : tie.Need-returns-3
 returns-3 c =

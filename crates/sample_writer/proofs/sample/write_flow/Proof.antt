@@ -18,7 +18,9 @@ returns : tie.Need-returns
 returns c = refused-value _ _ _ (packet-refused _ _ _ _ _ (sym (c .before .before .pass-packet .ensures) ∙ c .enum-told .given .1))
 
 returns-2 : tie.Need-returns-2
-returns-2 c = refused-value _ _ _ (packet-not-one _ _ _ _ (sym (c .before .before .before .before .pass-packet .ensures) ∙ c .before .before .end .given .1) (c .if1 .taken))
+returns-2 c =
+    refused-value _ _ _
+    (packet-not-one _ _ _ _ (sym (c .before .before .before .before .pass-packet .ensures) ∙ c .before .before .end .given .1) (c .if1 .taken))
 
 pass-extended-requires : tie.Need-pass-extended-requires
 pass-extended-requires c κs = search needs
@@ -34,7 +36,9 @@ returns-3 c =
     let at-if1 = c .before .before .before in
     let at-end = at-if1 .before .before in
     let at-pass-packet = at-end .before .before in
-    refused-value _ _ _ (extended-refused _ _ _ _ (sym (at-pass-packet .pass-packet .ensures) ∙ at-end .end .given .1) (at-if1 .if1 .left) _ _ (sym (c .before .before .pass-extended .ensures) ∙ c .enum-told2 .given .1))
+    refused-value _ _ _
+    (extended-refused _ _ _ _ (sym (at-pass-packet .pass-packet .ensures) ∙ at-end .end .given .1) (at-if1 .if1 .left) _ _
+    (sym (c .before .before .pass-extended .ensures) ∙ c .enum-told2 .given .1))
 
 returns-4 : tie.Need-returns-4
 returns-4 c =
@@ -42,7 +46,9 @@ returns-4 c =
     let at-if1 = at-pass-extended .before in
     let at-end = at-if1 .before .before in
     let at-pass-packet = at-end .before .before in
-    refused-value _ _ _ (extended-not-all _ _ _ _ (sym (at-pass-packet .pass-packet .ensures) ∙ at-end .end .given .1) (at-if1 .if1 .left) _ (sym (at-pass-extended .pass-extended .ensures) ∙ c .before .before .last .given .1) (c .if2 .taken))
+    refused-value _ _ _
+    (extended-not-all _ _ _ _ (sym (at-pass-packet .pass-packet .ensures) ∙ at-end .end .given .1) (at-if1 .if1 .left) _
+    (sym (at-pass-extended .pass-extended .ensures) ∙ c .before .before .last .given .1) (c .if2 .taken))
 
 slice-aggregate-write-joined : tie.Need-slice-aggregate-write-joined
 slice-aggregate-write-joined c = search needs
@@ -64,7 +70,10 @@ returns-5 c =
     let at-if1 = at-pass-extended .before in
     let at-end = at-if1 .before .before in
     let at-pass-packet = at-end .before .before in
-    c .before .before .write-joined .ensures ∙ written-value _ _ _ (flow-allowed _ _ _ _ (sym (at-pass-packet .pass-packet .ensures) ∙ at-end .end .given .1) (at-if1 .if1 .left) _ (sym (at-pass-extended .pass-extended .ensures) ∙ at-last .last .given .1) (at-if2 .if2 .left))
+    c .before .before .write-joined .ensures
+    ∙ written-value _ _ _
+    (flow-allowed _ _ _ _ (sym (at-pass-packet .pass-packet .ensures) ∙ at-end .end .given .1) (at-if1 .if1 .left) _
+    (sym (at-pass-extended .pass-extended .ensures) ∙ at-last .last .given .1) (at-if2 .if2 .left))
 
 pub write-flow-spec : {M : Type 1} → statement M
 write-flow-spec =

@@ -38,7 +38,8 @@ returns-3 c =
     let at-if1 = at-write-octets .before .before in
     let at-end = at-if1 .before .before in
     let at-pass-sample = at-end .before .before in
-    front-done _ _ _ _ _ (at-write-octets .write-octets .ensures) (c .before .n .given .1) ∙ written-value _ _ _ (sample-one _ _ (sym (at-pass-sample .pass-sample .ensures) ∙ at-end .end .given .1) (at-if1 .if1 .left))
+    front-done _ _ _ _ _ (at-write-octets .write-octets .ensures) (c .before .n .given .1)
+    ∙ written-value _ _ _ (sample-one _ _ (sym (at-pass-sample .pass-sample .ensures) ∙ at-end .end .given .1) (at-if1 .if1 .left))
 
 same-length-2 : tie.Need-same-length-2
 same-length-2 c = search needs
@@ -49,7 +50,8 @@ returns-4 c =
     let at-if1 = at-write-octets .before .before in
     let at-end = at-if1 .before .before in
     let at-pass-sample = at-end .before .before in
-    front-full _ _ _ _ (at-write-octets .write-octets .ensures) (c .enum-told2 .given .1) ∙ written-value _ _ _ (sample-one _ _ (sym (at-pass-sample .pass-sample .ensures) ∙ at-end .end .given .1) (at-if1 .if1 .left))
+    front-full _ _ _ _ (at-write-octets .write-octets .ensures) (c .enum-told2 .given .1)
+    ∙ written-value _ _ _ (sample-one _ _ (sym (at-pass-sample .pass-sample .ensures) ∙ at-end .end .given .1) (at-if1 .if1 .left))
 
 pub write-sample-spec : {M : Type 1} → statement M
 write-sample-spec =
