@@ -17,8 +17,8 @@ use Rattle.sflow.specs.Grammar.{Form, fixed, listed, chosen}
 use Rattle.sflow.specs.Decode.{found, refused, mapped, decode}
 use Rattle.sflow.specs.Datagram.{counters-versions, counters-type}
 use Rattle.sflow.proofs.Steps.{union-arm, union-bad, union-cut, fixed-end}
-use Rattle.fields.specs.declared.strings.Passed.{Passed}
-use Rattle.fields.specs.declared.strings.Passed.the-variants.{Next, Refused}
+use Rattle.fields.specs.declared.runs.Passed.{Passed}
+use Rattle.fields.specs.declared.runs.Passed.the-variants.{Next, Refused}
 use Rattle.fields.specs.Parts.{asPassed, asRun}
 use Rattle.fields.proofs.Passing.{passed-next, passed-refused, passed-alike}
 use Rattle.fields.proofs.Forms.{passed-run}

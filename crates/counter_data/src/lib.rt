@@ -1,5 +1,5 @@
 // Counters of a counter sample.
-use fields::strings::Passed;
+use fields::runs::Passed;
 use sflow::Refusal;
 use xdr::HyperRead;
 use xdr::WordRead;

@@ -11,7 +11,7 @@ use Rattle.sflow.specs.Grammar.{Form, fixed, list, _then_, Value}
 use Rattle.sflow.specs.Decode.{Decoded, found, refused, mapped, entries, decode}
 use Rattle.sflow.specs.Datagram.{int, word, as-path-type, extended-gateway}
 use Rattle.sflow.proofs.Steps.{list-cut, then-found}
-use Rattle.fields.specs.declared.strings.Passed.the-variants.{Next, Refused}
+use Rattle.fields.specs.declared.runs.Passed.the-variants.{Next, Refused}
 use Rattle.fields.specs.declared.words.Entries.{Entries}
 use Rattle.extended_data.specs.declared.Extended.{Extended}
 use Rattle.extended_data.specs.declared.Extended.the-variants.{IsGateway}

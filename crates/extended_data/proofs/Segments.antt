@@ -12,7 +12,7 @@ use Rattle.sflow.specs.Grammar.{list}
 use Rattle.sflow.specs.Decode.{found, refused, mapped, entries, decode}
 use Rattle.sflow.specs.Datagram.{word, as-path-type}
 use Rattle.sflow.proofs.Steps.{list-cut}
-use Rattle.fields.specs.declared.strings.Passed.the-variants.{Next, Refused}
+use Rattle.fields.specs.declared.runs.Passed.the-variants.{Next, Refused}
 use Rattle.fields.specs.declared.words.Entries.{Entries}
 use Rattle.extended_data.specs.declared.Segment.{Segment}
 use Rattle.fields.specs.Parts.{entriesAt, asPassed}

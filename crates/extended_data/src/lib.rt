@@ -1,7 +1,7 @@
 // Extended data of a flow sample.
 use fields::address::Address;
 use fields::address::AddressRead;
-use fields::strings::Passed;
+use fields::runs::Passed;
 use fields::strings::StringRead;
 use fields::strings::Text;
 use fields::words::Entries;

@@ -14,7 +14,7 @@ use Rattle.sflow.specs.Grammar.{Form, list, _then_, Value, enumeration}
 use Rattle.sflow.specs.Decode.{Decoded, found, refused, mapped, entries, decode}
 use Rattle.sflow.proofs.Steps.{union-arm, union-bad, list-word, then-found, then-refused, entries-count}
 use Rattle.sflow.proofs.Ends.{end-is}
-use Rattle.fields.specs.declared.strings.Passed.the-variants.{Next, Refused}
+use Rattle.fields.specs.declared.runs.Passed.the-variants.{Next, Refused}
 use Rattle.fields.specs.Parts.{size, entriesAt, asPassed}
 use Rattle.fields.proofs.Passing.{passed-next, passed-refused}
 

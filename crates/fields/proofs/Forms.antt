@@ -14,8 +14,8 @@ use Rattle.sflow.specs.declared.Refusal.the-variants.{CutItem}
 use Rattle.sflow.specs.Grammar.{Form, fixed, union, opaque, none, list, _then_, Value, enumeration}
 use Rattle.sflow.specs.Decode.{Decoded, refused, mapped, fixedItems, stringItem, entries, decode}
 use Rattle.sflow.proofs.Steps.{union-arm, union-cut, string-cut, string-word, list-cut, list-word, then-found, then-refused}
-use Rattle.fields.specs.declared.strings.Passed.{Passed}
-use Rattle.fields.specs.declared.strings.Passed.the-variants.{Next, Refused}
+use Rattle.fields.specs.declared.runs.Passed.{Passed}
+use Rattle.fields.specs.declared.runs.Passed.the-variants.{Next, Refused}
 use Rattle.fields.specs.Parts.{asPassed, asRun}
 use Rattle.fields.proofs.Compounds.{enumeration-in, enumeration-below, enumeration-above}
 use Rattle.fields.proofs.Passing.{passed-next, passed-refused, passed-seen, passed-alike}

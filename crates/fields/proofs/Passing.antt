@@ -13,7 +13,7 @@ use Rattle.sflow.specs.declared.Refusal.the-variants.{CutItem}
 use Rattle.sflow.specs.Decode.{Decoded, found, refused, andThen, mapped, entries, decode}
 use Rattle.sflow.specs.Datagram.{word}
 use Rattle.sflow.proofs.Steps.{fixed-step, fixed-stop, fixed-end}
-use Rattle.fields.specs.declared.strings.Passed.the-variants.{Next, Refused}
+use Rattle.fields.specs.declared.runs.Passed.the-variants.{Next, Refused}
 use Rattle.fields.specs.Parts.{asPassed}
 
 -- what a passing says of what was found

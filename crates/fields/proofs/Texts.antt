@@ -14,7 +14,7 @@ use Rattle.sflow.specs.declared.Refusal.{Refusal}
 use Rattle.sflow.specs.Grammar.{opaque, none}
 use Rattle.sflow.specs.Decode.{found, refused, mapped, stringItem, decode}
 use Rattle.sflow.proofs.Steps.{string-word}
-use Rattle.fields.specs.declared.strings.Passed.the-variants.{Next, Refused}
+use Rattle.fields.specs.declared.runs.Passed.the-variants.{Next, Refused}
 use Rattle.fields.specs.Parts.{asPassed}
 use Rattle.fields.specs.Strings.{textOf}
 use Rattle.fields.proofs.Passing.{passed-refused}

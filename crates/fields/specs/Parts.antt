@@ -7,8 +7,8 @@ use Rattle.xdr.specs.declared.RunRead.the-variants.{Run, CutRun}
 use Rattle.sflow.specs.declared.Refusal.the-variants.{CutItem}
 use Rattle.sflow.specs.Grammar.{Form, Value, encode}
 use Rattle.sflow.specs.Decode.{Decoded, found, refused}
-use Rattle.fields.specs.declared.strings.Passed.{Passed}
-use Rattle.fields.specs.declared.strings.Passed.the-variants.{Next, Refused}
+use Rattle.fields.specs.declared.runs.Passed.{Passed}
+use Rattle.fields.specs.declared.runs.Passed.the-variants.{Next, Refused}
 use Rattle.fields.specs.declared.words.Entries.{Entries}
 
 -- the number of a run's item, counted from 0

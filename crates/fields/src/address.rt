@@ -1,5 +1,5 @@
 // Addresses of agents and of next hops.
-use crate::strings::Passed;
+use crate::runs::Passed;
 use sflow::Refusal;
 use xdr::QuadRead;
 use xdr::WordRead;

@@ -1,4 +1,5 @@
-// Strings, and the answer of a read that only passes over what it reads.
+// Strings.
+use crate::runs::Passed;
 use sflow::Refusal;
 use xdr::PaddedRead;
 use xdr::WordRead;
@@ -18,12 +19,6 @@ pub struct Text {
 
 pub enum StringRead {
     Found(Text, usize),
-    Refused(Refusal, usize),
-}
-
-// The offset behind what was passed over.
-pub enum Passed {
-    Next(usize),
     Refused(Refusal, usize),
 }
 

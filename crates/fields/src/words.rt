@@ -1,5 +1,5 @@
 // Four words in a row; lists of words.
-use crate::strings::Passed;
+use crate::runs::Passed;
 use sflow::Refusal;
 use xdr::WordRead;
 ghost use mathlib.Core.Path.{_≡_};

@@ -12,7 +12,7 @@ use Rattle.sflow.specs.Grammar.{Form, list, Value, octetsOfEach, encode}
 use Rattle.sflow.specs.Decode.{entries, decode}
 use Rattle.sflow.specs.Datagram.{word, as-path-type}
 use Rattle.sflow.proofs.Ends.{entries-end-is}
-use Rattle.fields.specs.declared.strings.Passed.the-variants.{Next}
+use Rattle.fields.specs.declared.runs.Passed.the-variants.{Next}
 use Rattle.fields.specs.Parts.{asPassed}
 use Rattle.fields.proofs.Passing.{passed-next}
 use Rattle.form_writer.specs.Parts.{wordsOctets, partsOctets}

@@ -2,7 +2,7 @@
 use crate::parts::WriteAnswer;
 use extended_data::Router;
 use extended_data::Switch;
-use fields::strings::Passed;
+use fields::runs::Passed;
 ghost use mathlib.Core.Path.{_≡_};
 ghost use Rattle.sflow.specs.Grammar.{encode};
 ghost use Rattle.sflow.specs.Datagram.{as-path-type, extended-data-type};

@@ -33,18 +33,6 @@ pub struct Attributes {
     pub packet: PacketView,
 }
 
-fn pair_of(a: u8, b: u8) -> u32
-    ensures { λ r. ⌜ r ≡ a * 256 + b ⌝ }
-{
-    a as u32 * 256 + b as u32
-}
-
-fn word_of(a: u8, b: u8, c: u8, d: u8) -> u32
-    ensures { λ r. ⌜ r ≡ a * 16777216 + b * 65536 + c * 256 + d ⌝ }
-{
-    a as u32 * 16777216 + b as u32 * 65536 + c as u32 * 256 + d as u32
-}
-
 fn wide(x: u8) -> u32
     ensures { λ r. ⌜ r ≡ x ⌝ }
 {
@@ -88,8 +76,8 @@ fn ports_behind(x: &[u8], protocol: u32, size: usize) -> Ports
     if has_ports(protocol) {
         if 4 <= x.len() - size {
             return Ports {
-                source: pair_of(x[size], x[size + 1]),
-                dest: pair_of(x[size + 2], x[size + 3]),
+                source: xdr::pair_of(x[size], x[size + 1]),
+                dest: xdr::pair_of(x[size + 2], x[size + 3]),
             };
         }
     }
@@ -124,8 +112,8 @@ fn ipv4_fields(x: &[u8]) -> PacketView
     let ports = ports_behind(x, protocol, size);
     PacketView {
         peer_type: 1,
-        source_address: word_of(x[12], x[13], x[14], x[15]),
-        dest_address: word_of(x[16], x[17], x[18], x[19]),
+        source_address: xdr::word_of(x[12], x[13], x[14], x[15]),
+        dest_address: xdr::word_of(x[16], x[17], x[18], x[19]),
         protocol,
         ports,
     }

@@ -16,7 +16,7 @@ use Rattle.sflow.specs.Grammar.{Form, opaque, atMost, _then_}
 use Rattle.sflow.specs.Decode.{found, refused, mapped, stringItem, decode}
 use Rattle.sflow.specs.Datagram.{word, sampled-header}
 use Rattle.sflow.proofs.Steps.{union-arm, union-bad, union-cut, fixed-word, fixed-word-cut, fixed-end, limited-cut, limited-over, limited-word, then-found, then-refused}
-use Rattle.fields.specs.declared.strings.Passed.the-variants.{Next, Refused}
+use Rattle.fields.specs.declared.runs.Passed.the-variants.{Next, Refused}
 use Rattle.packet_data.specs.declared.PacketData.the-variants.{Header}
 use Rattle.fields.specs.Parts.{asPassed}
 use Rattle.packet_data.specs.Packets.{headerOf}

@@ -1,6 +1,6 @@
 // Packet data of a flow sample.
 use fields::address::Quad;
-use fields::strings::Passed;
+use fields::runs::Passed;
 use fields::strings::Text;
 use fields::words::FourRead;
 use sflow::Refusal;

@@ -11,7 +11,7 @@ use Rattle.sflow.specs.Decode.{Decoded, found, refused, mapped, entries, decode
 use Rattle.sflow.specs.Datagram.{flow-words, packet-data-type, extended-data-type, flow-sample}
 use Rattle.sflow.proofs.Steps.{list-word, then-found, then-refused, entries-count}
 use Rattle.sflow.proofs.Ends.{end-is}
-use Rattle.fields.specs.declared.strings.Passed.the-variants.{Next, Refused}
+use Rattle.fields.specs.declared.runs.Passed.the-variants.{Next, Refused}
 use Rattle.packet_data.specs.declared.PacketData.{PacketData}
 use Rattle.packet_data.specs.declared.PacketRead.the-variants.{Found as FoundPacket, Refused as RefusedPacket}
 use Rattle.reader.specs.declared.sample.FlowWords.{FlowWords}

@@ -15,8 +15,8 @@ use Rattle.sflow.specs.Datagram.{address, sample-type, sample-datagram, agentAd
 use Rattle.sflow.specs.Reading.{readDatagram}
 use Rattle.sflow.proofs.Ends.{end-is}
 use Rattle.sflow.proofs.Theorems.{samples-end-to-end}
-use Rattle.fields.specs.declared.strings.Passed.{Passed}
-use Rattle.fields.specs.declared.strings.Passed.the-variants.{Next, Refused}
+use Rattle.fields.specs.declared.runs.Passed.{Passed}
+use Rattle.fields.specs.declared.runs.Passed.the-variants.{Next, Refused}
 use Rattle.reader.specs.declared.datagram.Head.{Head}
 use Rattle.reader.specs.declared.datagram.Step.the-variants.{End, Refused as Stopped}
 use Rattle.fields.specs.Parts.{size, asPassed}

@@ -17,18 +17,18 @@ use Rattle.sflow.specs.Grammar.{Form, fixed, list, _then_, Value}
 use Rattle.sflow.specs.Decode.{Decoded, found, refused, andThen, mapped, wordItem, entries, decode}
 use Rattle.sflow.specs.Datagram.{int, address, sample-type, sample-datagram-v4, sample-datagram}
 use Rattle.sflow.specs.Reading.{longest, readDatagram}
-use Rattle.xdr.proofs.Reading.{word-read, word-cut}
-use Rattle.sflow.proofs.Steps.{union-is, then-is, list-is, fixed-word, fixed-word-cut, fixed-end, entries-count}
-use Rattle.fields.specs.declared.strings.Passed.the-variants.{Next, Refused}
+use Rattle.xdr.proofs.Reading.{word-read, word-cut as word-cut-at}
+use Rattle.sflow.proofs.Steps.{union-is, then-is, list-is, fixed-word-cut, entries-count}
+use Rattle.fields.specs.declared.runs.Passed.the-variants.{Next, Refused}
 use Rattle.reader.specs.declared.datagram.Head.{Head}
 use Rattle.sflow.proofs.Ends.{end-is}
 use Rattle.fields.specs.Parts.{item, size, asPassed}
 use Rattle.reader.specs.declared.datagram.HeadRead.{HeadRead}
 use Rattle.reader.specs.declared.datagram.HeadRead.the-variants.{Found as FoundHead, Refused as RefusedHead}
-use Rattle.reader.specs.Datagrams.{datagram-head, headOf, headAt, datagramOf, asHead}
+use Rattle.reader.specs.Datagrams.{head-words, datagram-head, headOf, headAt, datagramOf, asHead}
 use Rattle.fields.proofs.Passing.{passed-next, passed-refused}
 use Rattle.fields.proofs.Compounds.{seen, seen-refused}
-use Rattle.fields.proofs.FixedItems.{fixed-next}
+use Rattle.fields.proofs.FixedItems.{no-more, word-then, word-cut, reads-found, fixed-next}
 
 -- a datagram's value, of its head's and its samples'
 abbrev joined : Value datagram-head → List (Value sample-type) → Value sample-datagram
@@ -44,35 +44,26 @@ module _ (e : Form) (s : List ℕ) (at : ℕ) where
   Split : Type 0
   Split =
       decode (fixed (int ∷ int ∷ []) then list e) s at
-      ≡ (andThen (decode (fixed (int ∷ int ∷ int ∷ [])) s at) λ ws next. mapped (λ es. (take 2 ws, es)) (entries (decode e s) (item ws 2) next))
+      ≡ (andThen (decode (fixed head-words) s at) λ ws next. mapped (λ es. (take 2 ws, es)) (entries (decode e s) (item ws 2) next))
 
   split-3 : (a p1 b p2 : ℕ) → wordAt s at ≡ Word a p1 → wordAt s p1 ≡ Word b p2 → (r : WordRead) → wordAt s p2 ≡ r → Split
   unfolding Split
   split-3 a p1 b p2 ea eb (CutWord p) ec =
       rw (
         then-is (fixed (int ∷ int ∷ [])) (list e) s at,
-        fixed-word s at a p1 (int ∷ []) ea,
-        fixed-word s p1 b p2 [] eb,
-        fixed-end s p2,
+        reads-found (word-then ea (word-then eb no-more)),
         list-is e s p2,
         ec,
-        fixed-word s at a p1 (int ∷ int ∷ []) ea,
-        fixed-word s p1 b p2 (int ∷ []) eb,
-        fixed-word-cut s p2 p [] ec,
-        word-cut s p2 p ec,
+        reads-found (word-then ea (word-then eb (word-cut {ws = []} ec))),
+        word-cut-at s p2 p ec,
       )
   split-3 a p1 b p2 ea eb (Word c p3) ec =
       rw (
         then-is (fixed (int ∷ int ∷ [])) (list e) s at,
-        fixed-word s at a p1 (int ∷ []) ea,
-        fixed-word s p1 b p2 [] eb,
-        fixed-end s p2,
+        reads-found (word-then ea (word-then eb no-more)),
         list-is e s p2,
         ec,
-        fixed-word s at a p1 (int ∷ int ∷ []) ea,
-        fixed-word s p1 b p2 (int ∷ []) eb,
-        fixed-word s p2 c p3 [] ec,
-        fixed-end s p3,
+        reads-found (word-then ea (word-then eb (word-then ec no-more))),
       )
       (paired (a ∷ b ∷ []) (entries (decode e s) c p3))
 
@@ -81,10 +72,8 @@ module _ (e : Form) (s : List ℕ) (at : ℕ) where
   split-2 a p1 ea (CutWord p) eb =
       rw (
         then-is (fixed (int ∷ int ∷ [])) (list e) s at,
-        fixed-word s at a p1 (int ∷ []) ea,
-        fixed-word-cut s p1 p [] eb,
-        fixed-word s at a p1 (int ∷ int ∷ []) ea,
-        fixed-word-cut s p1 p (int ∷ []) eb,
+        reads-found (word-then ea (word-cut {ws = []} eb)),
+        reads-found (word-then ea (word-cut {ws = int ∷ []} eb)),
       )
   split-2 a p1 ea (Word b p2) eb = split-3 a p1 b p2 ea eb (wordAt s p2) refl
 
@@ -96,7 +85,7 @@ module _ (e : Form) (s : List ℕ) (at : ℕ) where
 
 list-split : (e : Form) (s : List ℕ) (at : ℕ)
     → decode (fixed (int ∷ int ∷ []) then list e) s at
-    ≡ (andThen (decode (fixed (int ∷ int ∷ int ∷ [])) s at) λ ws next. mapped (λ es. (take 2 ws, es)) (entries (decode e s) (item ws 2) next))
+    ≡ (andThen (decode (fixed head-words) s at) λ ws next. mapped (λ es. (take 2 ws, es)) (entries (decode e s) (item ws 2) next))
 unfolding Split
 list-split e s at = split-1 e s at (wordAt s at) refl
 
@@ -133,24 +122,24 @@ whole-split s =
     union-is Version (λ v. eqb v 4) (λ v. sample-datagram-v4) s 0
     ∙ go (wordAt s 0)
     ∙ ap (λ (d : Decoded (Value datagram-head)). andThen d λ h p. mapped (joined h) (samplesAfter s h p))
-    (sym (union-is Version (λ v. eqb v 4) (λ v. address then fixed (int ∷ int ∷ int ∷ [])) s 0))
+    (sym (union-is Version (λ v. eqb v 4) (λ v. address then fixed head-words) s 0))
   where
     arms : (v next : ℕ) → tagged v (decode sample-datagram-v4 s next)
-        ≡ andThen (tagged v (decode (address then fixed (int ∷ int ∷ int ∷ [])) s next)) λ h p. mapped (joined h) (samplesAfter s h p)
+        ≡ andThen (tagged v (decode (address then fixed head-words) s next)) λ h p. mapped (joined h) (samplesAfter s h p)
     arms v next =
         let f : List ℕ → ℕ → Decoded (List (Value sample-type)) = λ ws p. entries (decode sample-type s) (item ws 2) p in
-        rw (then-is address (fixed (int ∷ int ∷ []) then list sample-type) s next, then-is address (fixed (int ∷ int ∷ int ∷ [])) s next)
-        (simp (list-split sample-type s) (after-address v f (decode (fixed (int ∷ int ∷ int ∷ [])) s) (decode address s next)))
+        rw (then-is address (fixed (int ∷ int ∷ []) then list sample-type) s next, then-is address (fixed head-words) s next)
+        (simp (list-split sample-type s) (after-address v f (decode (fixed head-words) s) (decode address s next)))
 
     test : (v next : ℕ) (b : Bool)
         → cond b (tagged v (decode sample-datagram-v4 s next)) (refused Version 0)
-        ≡ andThen (cond b (tagged v (decode (address then fixed (int ∷ int ∷ int ∷ [])) s next)) (refused Version 0)) λ h p. mapped (joined h) (samplesAfter s h p)
+        ≡ andThen (cond b (tagged v (decode (address then fixed head-words) s next)) (refused Version 0)) λ h p. mapped (joined h) (samplesAfter s h p)
     test v next true = arms v next
     test v next false = refl
 
     go : (r : WordRead)
         → andThen {B = Value sample-datagram} (wordItem r) (λ v next. cond (eqb v 4) (tagged v (decode sample-datagram-v4 s next)) (refused Version 0))
-        ≡ andThen (andThen {B = Value datagram-head} (wordItem r) (λ v next. cond (eqb v 4) (tagged v (decode (address then fixed (int ∷ int ∷ int ∷ [])) s next)) (refused Version 0)))
+        ≡ andThen (andThen {B = Value datagram-head} (wordItem r) (λ v next. cond (eqb v 4) (tagged v (decode (address then fixed head-words) s next)) (refused Version 0)))
         λ h p. mapped (joined h) (samplesAfter s h p)
     go (Word v next) = test v next (eqb v 4)
     go (CutWord p) = refl
@@ -162,10 +151,10 @@ HeadEnds (found v next) = next ≡ 16 + size address (v .1 .0)
 HeadEnds (refused why p) = Unit {0}
 
 head-ends : (s : List ℕ) → HeadEnds (decode datagram-head s 0)
-head-ends s = rw (union-is Version (λ v. eqb v 4) (λ v. address then fixed (int ∷ int ∷ int ∷ [])) s 0) (go (wordAt s 0) refl)
+head-ends s = rw (union-is Version (λ v. eqb v 4) (λ v. address then fixed head-words) s 0) (go (wordAt s 0) refl)
   where
     words : (v place : ℕ) → place ≡ 4 → (a : Value address) (p : ℕ) → decode address s place ≡ found a p
-        → (d : Decoded (List ℕ)) → decode (fixed (int ∷ int ∷ int ∷ [])) s p ≡ d
+        → (d : Decoded (List ℕ)) → decode (fixed head-words) s p ≡ d
         → HeadEnds (tagged v (andThen {B = Value address × List ℕ} d λ ws end. found (a, ws) end))
     words v place w a p e (refused why q) f = tt
     words v place w a p e (found ws end) f =
@@ -174,18 +163,18 @@ head-ends s = rw (union-is Version (λ v. eqb v 4) (λ v. address then fixed (in
         omega arith
 
     agent : (v place : ℕ) → place ≡ 4 → (d : Decoded (Value address)) → decode address s place ≡ d
-        → HeadEnds (tagged v (andThen {B = Value address × List ℕ} d λ a p. andThen (decode (fixed (int ∷ int ∷ int ∷ [])) s p) λ ws end. found (a, ws) end))
+        → HeadEnds (tagged v (andThen {B = Value address × List ℕ} d λ a p. andThen (decode (fixed head-words) s p) λ ws end. found (a, ws) end))
     agent v place w (refused why p) e = tt
-    agent v place w (found a p) e = words v place w a p e (decode (fixed (int ∷ int ∷ int ∷ [])) s p) refl
+    agent v place w (found a p) e = words v place w a p e (decode (fixed head-words) s p) refl
 
     test : (v place : ℕ) → place ≡ 4 → (b : Bool)
-        → HeadEnds (cond b (tagged v (decode (address then fixed (int ∷ int ∷ int ∷ [])) s place)) (refused Version 0))
-    test v place w true = rw (then-is address (fixed (int ∷ int ∷ int ∷ [])) s place) (agent v place w (decode address s place) refl)
+        → HeadEnds (cond b (tagged v (decode (address then fixed head-words) s place)) (refused Version 0))
+    test v place w true = rw (then-is address (fixed head-words) s place) (agent v place w (decode address s place) refl)
     test v place w false = tt
 
     go : (r : WordRead) → wordAt s 0 ≡ r
         → HeadEnds (andThen {B = Value datagram-head} (wordItem r)
-        (λ v next. cond (eqb v 4) (tagged v (decode (address then fixed (int ∷ int ∷ int ∷ [])) s next)) (refused Version 0)))
+        (λ v next. cond (eqb v 4) (tagged v (decode (address then fixed head-words) s next)) (refused Version 0)))
     go (Word v place) e = let w = word-read s 0 v place e in test v place (w .next-is) (eqb v 4)
     go (CutWord p) e = tt
 

@@ -18,8 +18,9 @@ use Rattle.reader.specs.declared.datagram.Cursor.{Cursor}
 use Rattle.reader.specs.declared.datagram.Step.{Step}
 use Rattle.reader.specs.declared.datagram.Step.the-variants.{Found, End, Refused}
 use Rattle.reader.specs.declared.datagram.HeadRead.the-variants.{Found as FoundHead, Refused as RefusedHead}
-use Rattle.fields.specs.declared.strings.Passed.{Passed}
-use Rattle.fields.specs.declared.strings.Passed.the-variants.{Next, Refused as RefusedPassing}
+use Rattle.fields.specs.declared.address.Address.{Address}
+use Rattle.fields.specs.declared.runs.Passed.{Passed}
+use Rattle.fields.specs.declared.runs.Passed.the-variants.{Next, Refused as RefusedPassing}
 use Rattle.fields.specs.Parts.{item, size, entriesAt}
 use Rattle.fields.specs.Addresses.{addressOf}
 use Rattle.reader.specs.Samples.{sampleOf, asSample}
@@ -38,9 +39,18 @@ abbrev pub asHead : Decoded Head → HeadRead
 asHead (found v next) = FoundHead v
 asHead (refused why p) = RefusedHead why p
 
--- what stands before the samples: version; agent address; sequence number, uptime, number of samples
+-- sequence number, uptime, number of samples
+abbrev pub head-words : List ℕ
+head-words = int ∷ int ∷ int ∷ []
+
+-- what stands before the samples: version; agent address; the words
 abbrev pub datagram-head : Form
-datagram-head = constant Version 4 (address then fixed (int ∷ int ∷ int ∷ []))
+datagram-head = constant Version 4 (address then fixed head-words)
+
+-- an agent, whose address ends at an offset, and the words behind it
+abbrev pub headWith : Address → ℕ → List ℕ → Head
+headWith agent at ws =
+    record { agent = agent; «sequence_number» = item ws 0; uptime = item ws 1; samples = record { at = at + 12; count = item ws 2 } }
 
 abbrev pub headOf : Value datagram-head → Head
 headOf v =

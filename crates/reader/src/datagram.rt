@@ -3,16 +3,17 @@ use crate::sample::Sample;
 use crate::sample::SampleRead;
 use fields::address::Address;
 use fields::address::AddressRead;
-use fields::strings::Passed;
+use fields::runs::Passed;
 use fields::words::Entries;
 use sflow::Refusal;
 use xdr::WordRead;
 ghost use mathlib.Core.Path.{_≡_};
+ghost use Rattle.sflow.specs.Grammar.{fixed};
 ghost use Rattle.sflow.specs.Decode.{decode, entries, mapped};
 ghost use Rattle.sflow.specs.Datagram.{sample-type};
 ghost use Rattle.sflow.specs.Reading.{readDatagram};
 ghost use Rattle.fields.specs.Parts.{asPassed};
-ghost use Rattle.reader.specs.Datagrams.{datagramOf, asHead, headAt, stepAt};
+ghost use Rattle.reader.specs.Datagrams.{datagramOf, asHead, head-words, headWith, headAt, stepAt};
 
 // What stands before the samples; samples are the offset of the first one and their number.
 pub struct Head {
@@ -42,25 +43,30 @@ pub fn read_head(s: &[u8]) -> HeadRead
     }
     match fields::address::read_address(s, agent_at) {
         AddressRead::Refused(why, p) => HeadRead::Refused(why, p),
-        AddressRead::Found(agent, p1) => {
-            let WordRead::Word(sequence_number, p2) = xdr::read_word(s, p1) else {
-                return HeadRead::Refused(Refusal::CutItem, p1);
-            };
-            let WordRead::Word(uptime, p3) = xdr::read_word(s, p2) else {
-                return HeadRead::Refused(Refusal::CutItem, p2);
-            };
-            let WordRead::Word(count, first) = xdr::read_word(s, p3) else {
-                return HeadRead::Refused(Refusal::CutItem, p3);
-            };
-            let samples = Entries { at: first, count };
-            HeadRead::Found(Head {
-                agent,
-                sequence_number,
-                uptime,
-                samples,
-            })
-        }
+        AddressRead::Found(agent, words_at) => read_head_words(s, words_at, agent),
     }
+}
+
+// What follows the agent's address, which ends at an offset: sequence number, uptime and number of samples.
+fn read_head_words(s: &[u8], at: usize, agent: Address) -> HeadRead
+    ensures { λ r. ⌜ r ≡ asHead (mapped (headWith agent at) (decode (fixed head-words) (now (s .entry)) at)) ⌝ }
+{
+    let WordRead::Word(sequence_number, p1) = xdr::read_word(s, at) else {
+        return HeadRead::Refused(Refusal::CutItem, at);
+    };
+    let WordRead::Word(uptime, p2) = xdr::read_word(s, p1) else {
+        return HeadRead::Refused(Refusal::CutItem, p1);
+    };
+    let WordRead::Word(count, first) = xdr::read_word(s, p2) else {
+        return HeadRead::Refused(Refusal::CutItem, p2);
+    };
+    let samples = Entries { at: first, count };
+    HeadRead::Found(Head {
+        agent,
+        sequence_number,
+        uptime,
+        samples,
+    })
 }
 
 // So many samples.

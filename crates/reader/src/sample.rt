@@ -1,7 +1,7 @@
 // Samples of a datagram.
 use counter_data::CounterBody;
 use counter_data::CounterBodyRead;
-use fields::strings::Passed;
+use fields::runs::Passed;
 use fields::words::Entries;
 use fields::words::FourRead;
 use packet_data::PacketData;

@@ -14,7 +14,7 @@ use Rattle.reader.proofs.datagram.Step.{the-type}
 use Rattle.sflow.specs.declared.Refusal.{Refusal}
 use Rattle.sflow.specs.declared.Refusal.the-variants.{Trailing}
 use Rattle.sflow.specs.Refusals.{refusalNumber}
-use Rattle.fields.specs.declared.strings.Passed.the-variants.{Next}
+use Rattle.fields.specs.declared.runs.Passed.the-variants.{Next}
 use Rattle.reader.specs.declared.sample.Sample.{Sample}
 use Rattle.reader.specs.declared.datagram.Cursor.{Cursor}
 use Rattle.reader.specs.declared.datagram.Step.{Step}

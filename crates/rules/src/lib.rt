@@ -130,18 +130,6 @@ pub fn action_of(opcode: u8) -> Action
     }
 }
 
-fn pair_of(a: u8, b: u8) -> u32
-    ensures { λ r. ⌜ r ≡ a * 256 + b ⌝ }
-{
-    a as u32 * 256 + b as u32
-}
-
-fn word_of(a: u8, b: u8, c: u8, d: u8) -> u32
-    ensures { λ r. ⌜ r ≡ a * 16777216 + b * 65536 + c * 256 + d ⌝ }
-{
-    a as u32 * 16777216 + b as u32 * 65536 + c as u32 * 256 + d as u32
-}
-
 // What stands for a record that is not there.
 fn no_record() -> RuleRecord
     ensures { λ r. ⌜ r ≡ noRecord ⌝ }
@@ -178,8 +166,8 @@ fn rule_in(s: &[u8], at: usize) -> Rule
     Rule {
         attribute: s[at + 2],
         opcode: s[at + 3],
-        mask: word_of(s[at + 4], s[at + 5], s[at + 6], s[at + 7]),
-        value: word_of(s[at + 8], s[at + 9], s[at + 10], s[at + 11]),
+        mask: xdr::word_of(s[at + 4], s[at + 5], s[at + 6], s[at + 7]),
+        value: xdr::word_of(s[at + 8], s[at + 9], s[at + 10], s[at + 11]),
         parameter: number_of(s[at + 12]),
     }
 }
@@ -207,7 +195,7 @@ pub fn record_at(s: &[u8], i: usize) -> RuleRecord
         return no_record();
     }
     let at = 16 * (i - 1);
-    let mark = pair_of(s[at], s[at + 1]);
+    let mark = xdr::pair_of(s[at], s[at + 1]);
     let rule = rule_in(s, at);
     let declared = declared_in(s, at);
     RuleRecord {

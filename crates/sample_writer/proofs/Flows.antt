@@ -7,7 +7,7 @@ use lib.ListN.{length}
 use Rattle.sflow.specs.declared.Refusal.{Refusal}
 use Rattle.sflow.specs.Decode.{entries, decode}
 use Rattle.sflow.specs.Datagram.{packet-data-type, extended-data-type}
-use Rattle.fields.specs.declared.strings.Passed.the-variants.{Next, Refused}
+use Rattle.fields.specs.declared.runs.Passed.the-variants.{Next, Refused}
 use Rattle.fields.specs.Parts.{asPassed}
 use Rattle.sample_writer.specs.FlowValues.{flowAllowed}
 use Rattle.form_writer.proofs.Allowed.{ends-there, ends-elsewhere, ends-nowhere}

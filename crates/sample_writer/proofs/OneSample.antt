@@ -12,7 +12,7 @@ use Rattle.xdr.proofs.Writing.{write-done, write-no-room}
 use Rattle.sflow.specs.declared.Refusal.{Refusal}
 use Rattle.sflow.specs.Decode.{decode}
 use Rattle.sflow.specs.Datagram.{sample-type}
-use Rattle.fields.specs.declared.strings.Passed.the-variants.{Next, Refused}
+use Rattle.fields.specs.declared.runs.Passed.the-variants.{Next, Refused}
 use Rattle.fields.specs.Parts.{asPassed}
 use Rattle.form_writer.specs.declared.parts.WriteAnswer.the-variants.{Done, NoRoom}
 use Rattle.form_writer.specs.Parts.{outcome, writeAlone}

@@ -1,5 +1,5 @@
 // Flow samples, with their type word.
-use fields::strings::Passed;
+use fields::runs::Passed;
 use form_writer::parts::WriteAnswer;
 use reader::sample::FlowWords;
 use xdr::Written;

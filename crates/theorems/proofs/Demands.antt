@@ -13,6 +13,12 @@ use Rattle.rules.specs.Checks.{check}
 use Rattle.rules.proofs.Demand.{demand-3 as machine-demand}
 use Rattle.engine.specs.Ends.{ends-alike}
 use Rattle.engine.specs.Results.{engineOf}
+use Rattle.reader.proofs.datagram.read_head.Met as read-head
+use Rattle.reader.proofs.datagram.next_sample.Met as next-sample
+use Rattle.writer.proofs.append_flow.Met as append-flow
+use Rattle.writer.proofs.append_counters.Met as append-counters
+use Rattle.ledger.proofs.enter.Met as table
+use Rattle.ledger.proofs.update_row.Met as lent-row
 use Rattle.export.proofs.sflow4_read.Met as read
 use Rattle.export.proofs.sflow4_sample.Met as sample
 use Rattle.export.proofs.sflow4_extended.Met as extended
@@ -22,7 +28,6 @@ use Rattle.export.proofs.sflow4_append.Met as append
 use Rattle.export.proofs.sflow4_write.Met as write
 use Rattle.export.proofs.sflow4_write_counters.Met as write-counters
 use Rattle.export.proofs.sflow4_ledger.Met as ledger
-use Rattle.ledger.proofs.update_row.Met as lent-row
 use Rattle.export.proofs.rtfm_check.Met as check
 use Rattle.export.proofs.rtfm_run.Met as run
 use Rattle.export.proofs.sflow4_lines.Met as lines
@@ -33,14 +38,19 @@ pub demand-1 : Demand1
 demand-1 =
     record {
       read-meets = read.met;
+      read-head-meets = read-head.met;
+      next-sample-meets = next-sample.met;
       sample-meets = sample.met;
       extended-meets = extended.met;
       segment-meets = segment.met;
       start-meets = start.met;
       append-meets = append.met;
+      append-flow-meets = append-flow.met;
+      append-counters-meets = append-counters.met;
       write-meets = write.met;
       write-counters-meets = write-counters.met;
       ledger-meets = ledger.met;
+      table-meets = table.met;
       lent-row-meets = lent-row.met;
       check-meets = check.met;
       run-meets = run.met;

@@ -30,6 +30,12 @@ use Rattle.rules.specs.Machine.{ended, after}
 use Rattle.rules.specs.Checks.{check}
 use Rattle.rules.specs.Demand.{Demand3 as MachineWithin}
 use Rattle.engine.specs.Results.{flow, flowIn, answerOf, keyOf, engineOf}
+use Rattle.reader.proofs.datagram.read_head.Statement as read-head
+use Rattle.reader.proofs.datagram.next_sample.Statement as next-sample
+use Rattle.writer.proofs.append_flow.Statement as append-flow
+use Rattle.writer.proofs.append_counters.Statement as append-counters
+use Rattle.ledger.proofs.enter.Statement as table
+use Rattle.ledger.proofs.update_row.Statement as lent-row
 use Rattle.export.proofs.sflow4_read.Statement as read
 use Rattle.export.proofs.sflow4_sample.Statement as sample
 use Rattle.export.proofs.sflow4_extended.Statement as extended
@@ -39,7 +45,6 @@ use Rattle.export.proofs.sflow4_append.Statement as append
 use Rattle.export.proofs.sflow4_write.Statement as write
 use Rattle.export.proofs.sflow4_write_counters.Statement as write-counters
 use Rattle.export.proofs.sflow4_ledger.Statement as ledger
-use Rattle.ledger.proofs.update_row.Statement as lent-row
 use Rattle.export.proofs.rtfm_check.Statement as check
 use Rattle.export.proofs.rtfm_run.Statement as run
 use Rattle.export.proofs.sflow4_lines.Statement as lines
@@ -48,11 +53,15 @@ use Rattle.export.proofs.sflow4_end_lines.Statement as end-lines
 -- 1. "Every octet string, rule set and table row is answered or refused, every call ends, no public entry needs anything checked beforehand; refusal number,
 -- place and the contents of each lent buffer are exactly document 01's."
 --
--- Each function that C and Rust can call, and the ledger's on one lent row, meets its contract: a call is safe and ends, whatever it is given (no contract
--- has a `requires`), and the number that it answers and every lent slice and row afterwards are those of a definition.
+-- Each function that C and Rust can call, and those that only a program in Rattle can (the walk over a datagram's samples, samples appended from values, the
+-- ledger's table by value and one lent row), meets its contract: a call is safe and ends, whatever it is given (no contract has a `requires`), and what it
+-- answers and every lent slice and row afterwards are those of a definition.
 pub record Demand1 : Type 2 where
   -- a datagram, read
   pub read-meets : {M : Type 1} → read.statement M
+  -- its head alone, and a step of the walk over its samples
+  pub read-head-meets : {M : Type 1} → read-head.statement M
+  pub next-sample-meets : {M : Type 1} → next-sample.statement M
   -- a sample of it
   pub sample-meets : {M : Type 1} → sample.statement M
   -- an extended entry
@@ -61,14 +70,17 @@ pub record Demand1 : Type 2 where
   pub segment-meets : {M : Type 1} → segment.statement M
   -- a datagram started
   pub start-meets : {M : Type 1} → start.statement M
-  -- a sample appended
+  -- a sample appended, given as octets, as a flow sample's values or as a counter sample's
   pub append-meets : {M : Type 1} → append.statement M
+  pub append-flow-meets : {M : Type 1} → append-flow.statement M
+  pub append-counters-meets : {M : Type 1} → append-counters.statement M
   -- every form from values
   pub write-meets : {M : Type 1} → write.statement M
   -- counters from values
   pub write-counters-meets : {M : Type 1} → write-counters.statement M
-  -- a flow sample entered in the ledger
+  -- a flow sample entered in the ledger, a table of numbers or of rows
   pub ledger-meets : {M : Type 1} → ledger.statement M
+  pub table-meets : {M : Type 1} → table.statement M
   -- a lent row of the ledger brought up to date
   pub lent-row-meets : {M : Type 1} → lent-row.statement M
   -- a rule set checked

@@ -4,7 +4,7 @@ use extended_data::Router;
 use extended_data::Switch;
 use fields::address::Address;
 use fields::address::Quad;
-use fields::strings::Passed;
+use fields::runs::Passed;
 use form_writer::parts::WriteAnswer;
 use packet_data::SampledIpv4;
 use packet_data::SampledIpv6;

@@ -23,8 +23,15 @@ pub fn read_word(s: &[u8], at: usize) -> WordRead
     WordRead::Word(word_of(s[at], s[at + 1], s[at + 2], s[at + 3]), at + 4)
 }
 
+// The number that two octets are, the most significant first.
+pub fn pair_of(a: u8, b: u8) -> u32
+    ensures { λ r. ⌜ r ≡ a * 256 + b ⌝ }
+{
+    (a as u32) * 256 + (b as u32)
+}
+
 // The number that four octets are, the most significant first.
-fn word_of(a: u8, b: u8, c: u8, d: u8) -> u32
+pub fn word_of(a: u8, b: u8, c: u8, d: u8) -> u32
     ensures { λ r. ⌜ r ≡ a * 16777216 + b * 65536 + c * 256 + d ⌝ }
 {
     (a as u32) * 16777216 + (b as u32) * 65536 + (c as u32) * 256 + (d as u32)
