@@ -309,7 +309,8 @@ enum {
 };
 
 /* Enters a flow sample of an agent in a ledger's table. A source is an agent and a source id; of an agent of type 1 word a
- * alone tells, of any other all four words. Columns 1 to 8 are read modulo 2^32.
+ * alone tells, of any other all four words. Columns 1 to 8 are read modulo 2^32. Flow samples only: counter samples have
+ * sequence numbers of their own, so do not enter them.
  * Answers 0: the eleven numbers of the sample's row (its source's lowest, else the lowest free one) are those of the row
  * afterwards; every other number stays as it was.
  * Else answers SFLOW4_REFUSED_TABLE_FULL (40), SFLOW4_REFUSED_REPEATED (41) or SFLOW4_REFUSED_BACKWARD (42); or
@@ -349,7 +350,9 @@ enum {
 /* Runs a rule set on a flow sample, both as octets; the sample from its type word to its end.
  * Answers RTFM_IGNORE (1), RTFM_NO_MATCH (2), RTFM_COUNT (3) or RTFM_COUNT_PKT (4); or the check's refusal, 30 to 39; or
  * RTFM_REFUSED_NOT_ONE_FLOW_SAMPLE (18). Out takes the 48 numbers above in any case; the key is all zero but after 3 and
- * 4. */
+ * 4.
+ * The rule set is checked anew in every call. An accepted one of n rules comes to at most n + n^2 + n^3 + n^4 + n^5 rules;
+ * without Gosub to at most n, while nested Gosubs can take seconds a sample. */
 uint32_t rtfm_run(const uint8_t *rules, size_t rules_length, const uint8_t *sample, size_t sample_length, uint64_t *out,
                   size_t out_length);
 

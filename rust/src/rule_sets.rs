@@ -94,6 +94,10 @@ pub struct Outcome {
 /// [`FlowSample::octets`](crate::FlowSample::octets). Refuses what the check refuses, then octets
 /// that are not exactly one flow sample (18).
 ///
+/// The rule set is checked anew in every call. An accepted one of n rules comes to at most
+/// n + n^2 + n^3 + n^4 + n^5 rules; without Gosub to at most n, while nested Gosubs can take
+/// seconds a sample.
+///
 /// ```
 /// use troutgable::{run, Answer, Attribute, Opcode, Rule, RuleReason};
 ///

@@ -1,13 +1,13 @@
 -- The values that writers write, as values of the grammar, and which of them the grammar allows (document 01, "Writer", number 22).
 use Prim.Native.Nat.{ℕ, _^_}
-use mathlib.Core.Bool.{Bool, false, cond, _||_}
+use mathlib.Core.Bool.{Bool, false, cond}
 use mathlib.Core.List.{List, [], _∷_, _++_, map}
 use lib.ListN.{length}
 use lib.Dec.{leb, ltb, eqb}
 use Rattle.xdr.specs.Numbers.{octetsOf, quadNumber}
-use Rattle.sflow.specs.Grammar.{Form, list, Value, encode, oneTo}
+use Rattle.sflow.specs.Grammar.{Form, list, Value, encode, listed, oneTo}
 use Rattle.sflow.specs.Decode.{Decoded, found, refused, entries, decode}
-use Rattle.sflow.specs.Datagram.{word, address, packet-data-type, as-path-type, extended-data-type}
+use Rattle.sflow.specs.Datagram.{word, address-types, address, packet-data-type, as-path-type, extended-data-type}
 use Rattle.fields.specs.declared.address.Quad.{Quad}
 use Rattle.fields.specs.declared.address.Address.{Address}
 use Rattle.packet_data.specs.declared.SampledIpv4.{SampledIpv4}
@@ -41,7 +41,7 @@ abbrev pub quadValue : Quad → ℕ
 quadValue q = quadNumber (q .a) (q .b) (q .c) (q .d)
 
 abbrev pub addressAllowed : Address → Bool
-addressAllowed a = eqb (a .kind) 1 || (eqb (a .kind) 2 || false)
+addressAllowed a = listed address-types (a .kind)
 
 abbrev pub addressValue : Address → Value address
 addressValue a = (a .kind, (cond (eqb (a .kind) 1) (a .octets .a) (quadValue (a .octets)) ∷ []))

@@ -8,13 +8,19 @@ use mathlib.Core.List.{List, [], _∷_}
 use lib.ListN.{length, getD, set}
 use lib.Seq.{getD-set-other, set-getD}
 use lib.Dec.{leb, ltb, eqb}
-use borrow.Author.Tests.{ltb-true, ltb-false, le-ltb}
+use borrow.Author.Tests.{ltb-true, ltb-false, le-ltb, lt-ltb}
 use Rattle.ledger.specs.declared.FlowEntry.{FlowEntry}
 use Rattle.ledger.specs.declared.Row.{Row}
 use Rattle.ledger.specs.declared.EntryAnswer.{EntryAnswer}
 use Rattle.ledger.specs.declared.EntryAnswer.the-variants.{Entered, TableFull, Repeated, Backward, OtherSource}
 use Rattle.ledger.specs.Ledger.{same, sourceOf, rowSource, sameSource, step, answered, opened, advanced, updated, isOf, isFree, firstRow, rowFor, freeRow, withRow, entered}
 use Rattle.ledger.specs.Runs.{AllOthers}
+
+-- a sample that has a row is entered there by the rules of one row
+pub by-row : (rows : List Row) (x : FlowEntry) → rowFor x rows < length rows
+    → entered rows x ≡ withRow rows (rowFor x rows) (updated (getD rows (rowFor x rows) freeRow) x)
+unfolding entered
+by-row rows x h = rw (lt-ltb (rowFor x rows) (length rows) h)
 
 -- every row but the sample's own stays as it was
 pub others-stay : (rows : List Row) (x : FlowEntry) (j : ℕ) → j ≢ rowFor x rows → getD (entered rows x .rows) j freeRow ≡ getD rows j freeRow

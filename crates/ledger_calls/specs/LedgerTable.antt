@@ -18,13 +18,13 @@ use Rattle.numbers.specs.Addresses.{addressWith}
 
 -- ---- rows as numbers
 
--- the number at a position, modulo 2 ^ 32
-abbrev pub wordAt : List ℕ → ℕ → ℕ
-wordAt ns i = getD ns i 0 % 2 ^ 32
+-- the number in a column of 32 bits: modulo 2 ^ 32
+abbrev pub columnAt : List ℕ → ℕ → ℕ
+columnAt ns i = getD ns i 0 % 2 ^ 32
 
 -- an agent address behind one number: its type and four words
 abbrev pub agentIn : List ℕ → Address
-agentIn ns = addressWith (wordAt ns 1) (wordAt ns 2) (wordAt ns 3) (wordAt ns 4) (wordAt ns 5)
+agentIn ns = addressWith (columnAt ns 1) (columnAt ns 2) (columnAt ns 3) (columnAt ns 4) (columnAt ns 5)
 
 -- the row that numbers begin with: used (0 where it is free), agent type, four address words, source id, sequence number, sample pool, totals
 abbrev pub rowIn : List ℕ → Row
@@ -32,9 +32,9 @@ rowIn ns =
     record {
       used = not (eqb (getD ns 0 0) 0);
       agent = agentIn ns;
-      «source_id» = wordAt ns 6;
-      «sequence_number» = wordAt ns 7;
-      «sample_pool» = wordAt ns 8;
+      «source_id» = columnAt ns 6;
+      «sequence_number» = columnAt ns 7;
+      «sample_pool» = columnAt ns 8;
       «lost_total» = getD ns 9 0;
       «pool_total» = getD ns 10 0;
     }

@@ -7,7 +7,7 @@ use lib.Dec.{leb}
 use Rattle.xdr.specs.Writes.{Wrote, wrote}
 use Rattle.xdr.specs.declared.Written.the-variants.{WrittenTo, Full}
 use Rattle.listing.specs.declared.Stop.{Stop}
-use Rattle.listing.specs.declared.Stop.the-variants.{Not, NoRecord, Output, BadRecord}
+use Rattle.listing.specs.declared.Stop.the-variants.{GoesOn, NoRecord, Output, BadRecord}
 use Rattle.listing.specs.declared.State.{State}
 use Rattle.listing.specs.declared.Place.{Place}
 use Rattle.listing.specs.Captures.{Placed, placed, listAll}
@@ -15,7 +15,7 @@ use Rattle.numbers.specs.Reports.{Report, report, tell, Handed, handed, withBuf
 
 -- 0 where no whole record is left (a capture without octets has none), 1 where the output may be too short for the next record, 2 where that has a wrong mark or length
 abbrev pub stopNumber : Stop → ℕ
-stopNumber Not = 0
+stopNumber GoesOn = 0
 stopNumber NoRecord = 0
 stopNumber Output = 1
 stopNumber BadRecord = 2

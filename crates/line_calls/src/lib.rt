@@ -20,7 +20,7 @@ fn stop_number(stop: Stop) -> u32
     ensures { λ r. ⌜ r ≡ stopNumber stop ⌝ }
 {
     match stop {
-        Stop::Not => 0,
+        Stop::GoesOn => 0,
         Stop::NoRecord => 0,
         Stop::Output => 1,
         Stop::BadRecord => 2,

@@ -129,10 +129,13 @@ fn list_held(output: &mut [u8], s: &[u8], begin: State) -> Progress
     }
 }
 
-// Moves the octets between two offsets to the front.
+// Moves the octets between two offsets to the front, where they do not stand there already.
 fn shift(input: &mut [u8], from: usize, end: usize)
     requires { ⌜ (from ≤ end) × (end ≤ length (now input)) ⌝ }
 {
+    if from == 0 {
+        return;
+    }
     let mut i = 0;
     while i < end - from {
         input[i] = input[from + i];

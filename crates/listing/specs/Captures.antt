@@ -10,7 +10,7 @@ use Rattle.record_lines.specs.declared.Listed.the-variants.{Accepted, Refused a
 use Rattle.listing.specs.declared.Frame.{Frame}
 use Rattle.listing.specs.declared.Frame.the-variants.{Whole, Short, Wrong}
 use Rattle.listing.specs.declared.Stop.{Stop}
-use Rattle.listing.specs.declared.Stop.the-variants.{Not, NoRecord, Output, BadRecord}
+use Rattle.listing.specs.declared.Stop.the-variants.{GoesOn, NoRecord, Output, BadRecord}
 use Rattle.listing.specs.declared.State.{State}
 use Rattle.listing.specs.declared.Place.{Place}
 
@@ -56,8 +56,8 @@ stoppedAs p x = record { at = p .at; out = p .out; state = p .state; stop = x }
 -- the place behind a record that takes so many octets
 abbrev pub behind : Place → ℕ → Listed → Place
 behind p taken NoRoom = stoppedAs p Output
-behind p taken (RefusedRecord out) = record { at = p .at + taken; out = out; state = refused (p .state) taken; stop = Not }
-behind p taken (Accepted out n) = record { at = p .at + taken; out = out; state = accepted (p .state) taken n; stop = Not }
+behind p taken (RefusedRecord out) = record { at = p .at + taken; out = out; state = refused (p .state) taken; stop = GoesOn }
+behind p taken (Accepted out n) = record { at = p .at + taken; out = out; state = accepted (p .state) taken n; stop = GoesOn }
 
 -- a place, and the output as it then is
 pub data Placed : Type 0 where
@@ -76,7 +76,7 @@ unfoldable pub stepAt : List ℕ → List ℕ → Place → Placed
 stepAt d s p = onFrame d (drop (p .at) s) p (recordOf (drop (p .at) s))
 
 abbrev pub isOver : Stop → Bool
-isOver Not = false
+isOver GoesOn = false
 isOver NoRecord = true
 isOver Output = true
 isOver BadRecord = true
@@ -91,7 +91,7 @@ listFrom (suc n) d s p = goOn (stepAt d s p) λ e q. listFrom n e s q
 
 -- the beginning of a buffer and of an output
 abbrev pub begins : State → Place
-begins t = record { at = 0; out = 0; state = t; stop = Not }
+begins t = record { at = 0; out = 0; state = t; stop = GoesOn }
 
 -- all whole records of a buffer, as far as the output has room
 unfoldable pub listAll : List ℕ → List ℕ → State → Placed

@@ -61,10 +61,9 @@ pub struct State {
     pub samples: u64,
 }
 
-// Why listing stopped.
+// Why listing stopped, or that it goes on.
 pub enum Stop {
-    // it goes on
-    Not,
+    GoesOn,
     // what is left of the buffer is no whole record
     NoRecord,
     // the output may be too short for the next record
@@ -138,13 +137,13 @@ fn list_whole(d: &mut [u8], s: &[u8], p: Place, n: usize) -> Place
             at: p.at + (4 + n),
             out,
             state: count_refused(state, 4 + n),
-            stop: Stop::Not,
+            stop: Stop::GoesOn,
         },
         Listed::Accepted(out, count) => Place {
             at: p.at + (4 + n),
             out,
             state: count_accepted(state, 4 + n, count),
-            stop: Stop::Not,
+            stop: Stop::GoesOn,
         },
     }
 }
@@ -164,7 +163,7 @@ fn is_over(stop: Stop) -> bool
     ensures { λ r. ⌜ r ≡ isOver stop ⌝ }
 {
     match stop {
-        Stop::Not => false,
+        Stop::GoesOn => false,
         Stop::NoRecord => true,
         Stop::Output => true,
         Stop::BadRecord => true,
@@ -179,7 +178,7 @@ pub fn list_records(d: &mut [u8], s: &[u8], begin: State) -> Place
         at: 0,
         out: 0,
         state: begin,
-        stop: Stop::Not,
+        stop: Stop::GoesOn,
     };
     let mut turns = s.len();
     while 0 < turns {

@@ -21,8 +21,12 @@ ip-v6 = 16
 abbrev pub word : Form
 word = fixed (int ∷ [])
 
+-- the octets of each address type
+abbrev pub address-types : List (Arm (List ℕ))
+address-types = case 1 (ip-v4 ∷ []) ∷ case 2 (ip-v6 ∷ []) ∷ []
+
 abbrev pub address : Form
-address = oneOfFixed AddressType (case 1 (ip-v4 ∷ []) ∷ case 2 (ip-v6 ∷ []) ∷ [])
+address = oneOfFixed AddressType address-types
 
 -- ---- packet data
 

@@ -3,6 +3,7 @@ use Prim.Native.Nat.{ℕ}
 use mathlib.Core.Path.{_≡_, sym}
 use mathlib.Core.List.{List}
 use Rattle.sflow.proofs.Theorems as grammar
+use Rattle.reader.proofs.Walks as reading
 use Rattle.rewriting.proofs.Theorems as rewriting
 use Rattle.ledger.proofs.Theorems as ledger-runs
 use Rattle.ledger.proofs.Answers as ledger-answers
@@ -14,9 +15,11 @@ use Rattle.rules.proofs.Demand.{demand-3 as machine-demand}
 use Rattle.engine.specs.Ends.{ends-alike}
 use Rattle.engine.specs.Results.{engineOf}
 use Rattle.reader.proofs.datagram.read_head.Met as read-head
+use Rattle.reader.proofs.datagram.start.Met as cursor
 use Rattle.reader.proofs.datagram.next_sample.Met as next-sample
 use Rattle.writer.proofs.append_flow.Met as append-flow
 use Rattle.writer.proofs.append_counters.Met as append-counters
+use Rattle.ledger.proofs.free_row.Met as free-row
 use Rattle.ledger.proofs.enter.Met as table
 use Rattle.ledger.proofs.update_row.Met as lent-row
 use Rattle.export.proofs.sflow4_read.Met as read
@@ -28,7 +31,7 @@ use Rattle.export.proofs.sflow4_append.Met as append
 use Rattle.export.proofs.sflow4_write.Met as write
 use Rattle.export.proofs.sflow4_write_counters.Met as write-counters
 use Rattle.export.proofs.sflow4_ledger.Met as ledger
-use Rattle.export.proofs.rtfm_check.Met as check
+use Rattle.export.proofs.rtfm_check.Met as rule-check
 use Rattle.export.proofs.rtfm_run.Met as run
 use Rattle.export.proofs.sflow4_lines.Met as lines
 use Rattle.export.proofs.sflow4_end_lines.Met as end-lines
@@ -39,6 +42,7 @@ demand-1 =
     record {
       read-meets = read.met;
       read-head-meets = read-head.met;
+      cursor-meets = cursor.met;
       next-sample-meets = next-sample.met;
       sample-meets = sample.met;
       extended-meets = extended.met;
@@ -51,8 +55,9 @@ demand-1 =
       write-counters-meets = write-counters.met;
       ledger-meets = ledger.met;
       table-meets = table.met;
+      free-row-meets = free-row.met;
       lent-row-meets = lent-row.met;
-      check-meets = check.met;
+      check-meets = rule-check.met;
       run-meets = run.met;
       lines-meets = lines.met;
       end-lines-meets = end-lines.met;
@@ -62,10 +67,13 @@ pub demand-2 : Demand2
 demand-2 =
     record {
       accepted-exactly = grammar.accepted-exactly;
+      to-end = grammar.accepted-to-end;
       end-to-end = grammar.samples-end-to-end;
+      walk-samples = reading.walk-samples;
       same-octets = rewriting.same-octets;
       never-more = rewriting.never-more;
       opens = λ row x e. sym (ledger-rows.opens row x e);
+      by-row = ledger-answers.by-row;
       full-exactly = ledger-answers.full-exactly;
       never-other = ledger-answers.never-other;
       refusal-keeps = ledger-answers.table-kept;
@@ -73,7 +81,7 @@ demand-2 =
       totals = ledger-runs.totals-grow;
     }
 
-pub demand-3 : (s : List ℕ) → check s ≡ Accepted → Demand3 s
+pub demand-3 : Demand3
 unfolding engineOf
 demand-3 s e =
     record {

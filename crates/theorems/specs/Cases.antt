@@ -61,14 +61,14 @@ Refuses (Refused why p) number place = (refusalNumber why ≡ number) × (p ≡ 
 
 -- ---- 11: the writer
 
--- how a datagram stands: the number of the last answer, the length of the datagram, the buffer
-pub record Standing : Type 0 where
+-- behind some appends: the number of the last answer, the length of the datagram, the buffer
+pub record Appended : Type 0 where
   pub number : ℕ
   pub size : ℕ
   pub buffer : List ℕ
 
 -- behind an answer: the new length, or the refusal with what was there
-abbrev behind : ℕ → Outcome → Standing
+abbrev behind : ℕ → Outcome → Appended
 behind size (outcome (Done n) d) = record { number = 0; size = n; buffer = d }
 behind size (outcome BadLimit d) = record { number = answerNumber BadLimit; size = size; buffer = d }
 behind size (outcome BadDatagram d) = record { number = answerNumber BadDatagram; size = size; buffer = d }
@@ -76,11 +76,11 @@ behind size (outcome BadValue d) = record { number = answerNumber BadValue; size
 behind size (outcome NoRoom d) = record { number = answerNumber NoRoom; size = size; buffer = d }
 
 -- a datagram of an IPv4 agent with so many Ethernet counter samples appended, in a buffer of 1,400 octets
-abbrev standing : ℕ → Standing
-standing zero = behind 0 (started 1400 agent 1 1000 (replicate 1400 0))
-standing (suc n) =
-    behind (standing n .size)
-    (appended (countersAllowed 2 ethernetCounters) (encode sample-type (countersValue 5 16777316 20 2 ethernetCounters)) 1400 (standing n .size) (standing n .buffer))
+abbrev afterAppends : ℕ → Appended
+afterAppends zero = behind 0 (started 1400 agent 1 1000 (replicate 1400 0))
+afterAppends (suc n) =
+    behind (afterAppends n .size)
+    (appended (countersAllowed 2 ethernetCounters) (encode sample-type (countersValue 5 16777316 20 2 ethernetCounters)) 1400 (afterAppends n .size) (afterAppends n .buffer))
 
 -- ---- 12 to 16: check and engine
 
@@ -109,7 +109,7 @@ rowAfter x y = getD (second x y .rows) 0 freeRow
 abbrev pub Holds : Case → Type 0
 Holds (refuses s number place) = Refuses (asHead (mapped datagramOf (readDatagram s))) number place
 Holds (accepts s h) = asHead (mapped datagramOf (readDatagram s)) ≡ Found h
-Holds (appends n number size) = (standing n .number ≡ number) × (standing n .size ≡ size)
+Holds (appends n number size) = (afterAppends n .number ≡ number) × (afterAppends n .size ≡ size)
 Holds (runs s number rules) = (check s ≡ Accepted) × Gives (engineOf s flowSample) number 0 rules
 Holds (breaks s number rule) = Breaks (check s) number rule × Gives (engineOf s flowSample) number rule 0
 Holds (enters x y pool lost) =

@@ -12,6 +12,9 @@ Inv-loop input₀ from end i₀ input i = (length input ≡ length input₀) × 
 abbrev μ-loop : tie.MeasureT-loop
 μ-loop input₀ from end i₀ input i = end - from - i
 
+returns : tie.Need-returns Inv-loop μ-loop
+returns c = search needs
+
 loop-holds : tie.Need-loop-holds Inv-loop μ-loop
 loop-holds c = (refl, omega arith)
 
@@ -39,8 +42,8 @@ loop-again c = search needs
 same-length : tie.Need-same-length Inv-loop μ-loop
 same-length c = search needs
 
-returns : tie.Need-returns Inv-loop μ-loop
-returns c = search needs
+returns-2 : tie.Need-returns-2 Inv-loop μ-loop
+returns-2 c = search needs
 
 pub shift-spec : {M : Type 1} → statement M
 shift-spec =
@@ -48,6 +51,7 @@ shift-spec =
     (tie.spec
     Inv-loop
     μ-loop
+    returns
     loop-holds
     sub-loop
     add-input
@@ -57,4 +61,4 @@ shift-spec =
     loop-less
     loop-again
     same-length
-    returns)
+    returns-2)
