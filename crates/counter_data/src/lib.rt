@@ -42,7 +42,7 @@ pub const VG_WIDTHS: [u8; 33] =
 pub const VLAN_WIDTHS: [u8; 6] = *b"\x04\x08\x04\x04\x04\x04";
 
 // How many octets the counters of a version take: none where it is no version.
-fn body_size(version: u32) -> usize
+pub fn body_size(version: u32) -> usize
     ensures { λ r. ⌜ r ≡ sum (chosen [] counters-versions version) ⌝ }
 {
     match version {

@@ -1,7 +1,7 @@
 -- The counters of a sample that was read stand behind a version word.
 use Prim.Native.Nat.{ℕ, _+_, _-_, _≤_}
 use mathlib.Core.Bool.{Bool, true, false, cond}
-use mathlib.Core.Path.{_≡_, refl, sym, subst}
+use mathlib.Core.Path.{_≡_, refl, subst}
 use mathlib.Core.List.{List, [], _∷_}
 use native.Mathlib.Omega.{arith}
 use lib.Dec.{eqb}
@@ -13,7 +13,6 @@ use Rattle.xdr.proofs.Runs.{items-read}
 use Rattle.sflow.specs.Decode.{Decoded, found, refused, andThen, mapped, fixedItems, decode}
 use Rattle.sflow.specs.Datagram.{flow-sample, counters-type, counters-sample, sample-type}
 use Rattle.sflow.proofs.Steps.{then-is}
-use Rattle.counter_data.specs.declared.CounterValues.{CounterValues}
 use Rattle.counter_data.specs.CounterBodies.{counterValuesOf}
 use Rattle.reader.specs.declared.sample.CountersSample.{CountersSample}
 use Rattle.reader.specs.declared.sample.Sample.{Sample}
@@ -22,9 +21,7 @@ use Rattle.reader.specs.declared.sample.SampleValues.the-variants.{Flow, Counte
 use Rattle.reader.specs.declared.sample.SampleRead.{SampleRead}
 use Rattle.reader.specs.declared.sample.SampleRead.the-variants.{Found, Refused}
 use Rattle.reader.specs.Samples.{countersOf, sampleBy, sampleOf, asSample}
-use Rattle.numbers.specs.Reports.{filled, filledBehind}
-use Rattle.numbers.proofs.Reports.{then-behind}
-use Rattle.sample_calls.specs.SampleReports.{counterCount, countersIn, countersNumbers}
+use Rattle.sample_calls.specs.SampleReports.{countersIn}
 
 abbrev PlacedValues : SampleValues → Type 0
 PlacedValues (Flow x) = Unit {0}
@@ -82,12 +79,3 @@ counters-found s at v end e =
     let h : decode counters-type s (at + 12) ≡ found (v .1) end = subst (Behind s at) e (behind s at) in
     let k : at + 12 + 4 - 4 ≡ at + 12 = omega arith in
     rw (k, h) refl
-
--- the words of a counter sample put to an array's front, and then its counters
-pub counters-put : {m e : List ℕ} (d s : List ℕ) (x : CountersSample) (offset size count : ℕ) (v : CounterValues) → v ≡ countersIn s x → count ≡ counterCount (v .answer)
-    → m ≡ filled (2 ∷ offset ∷ size ∷ x .«sequence_number» ∷ x .«source_id» ∷ x .«sampling_interval» ∷ x .counters .version ∷ count ∷ []) d
-    → e ≡ filledBehind 8 (v .numbers) m
-    → e ≡ filled (2 ∷ offset ∷ size ∷ countersNumbers s x) d
-counters-put {m} {e} d s x offset size count v read counted front behind =
-    rw (sym read, sym counted)
-    (then-behind (2 ∷ offset ∷ size ∷ x .«sequence_number» ∷ x .«source_id» ∷ x .«sampling_interval» ∷ x .counters .version ∷ count ∷ []) (v .numbers) d m e 8 refl front behind)

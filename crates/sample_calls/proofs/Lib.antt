@@ -1,1 +1,3 @@
+pub mod BodyNumbers
 pub mod CounterPlaces
+pub mod CounterRuns

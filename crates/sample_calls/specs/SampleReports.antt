@@ -54,12 +54,14 @@ counterCount (RefusedCount why p) = 0
 abbrev pub countersIn : List ℕ → CountersSample → CounterValues
 countersIn s x = counterValuesOf (decode counters-type s (x .counters .at - 4))
 
--- the words, the counters version, how many counters there are, then the counters with zeros behind them, 37 numbers
+-- how many counters there are, then the counters with zeros behind them, 37 numbers
+abbrev pub valueNumbers : CounterValues → List ℕ
+valueNumbers v = counterCount (v .answer) ∷ v .numbers
+
+-- the words, the counters version, then how many counters there are and the counters
 abbrev pub countersNumbers : List ℕ → CountersSample → List ℕ
 countersNumbers s x =
-    x .«sequence_number» ∷ x .«source_id» ∷ x .«sampling_interval» ∷ x .counters .version
-    ∷ counterCount (countersIn s x .answer)
-    ∷ countersIn s x .numbers
+    x .«sequence_number» ∷ x .«source_id» ∷ x .«sampling_interval» ∷ x .counters .version ∷ valueNumbers (countersIn s x)
 
 -- 1 for a flow sample, 2 for a counter sample
 abbrev pub sampleKind : SampleValues → ℕ

@@ -1,6 +1,6 @@
 // Reading a sample as a function on numbers and slices. Crate export gives it to C and Rust.
-use counter_data::CounterAnswer;
-use counter_data::CounterValues;
+mod counters;
+
 use fields::address::Quad;
 use numbers::fill;
 use numbers::fill_behind;
@@ -26,7 +26,6 @@ ghost use Rattle.sample_calls.specs.SampleReports.{
   packetNumbers,
   wordNumbers,
   flowNumbers,
-  counterCount,
   countersNumbers,
   sampleReport,
 };
@@ -136,32 +135,11 @@ fn fill_flow(offset: usize, length: usize, f: FlowSample, out: &mut [u64])
     fill_packet(packet, out);
 }
 
-// How many counters were found.
-fn counter_count(answer: CounterAnswer) -> u64
-    ensures { λ r. ⌜ r ≡ counterCount answer ⌝ }
-{
-    match answer {
-        CounterAnswer::Found(c, _) => c.count as u64,
-        CounterAnswer::Refused(_, _) => 0,
-    }
-}
-
-// Puts every counter behind the first 8 numbers of an array.
-fn fill_values(values: CounterValues, out: &mut [u64])
-    ensures { λ _. ⌜ now (out .exit) ≡ filledBehind 8 (values .numbers) (now (out .entry)) ⌝ }
-{
-    let numbers = values.numbers;
-    fill_behind(out, 8, &numbers);
-}
-
 // Puts the numbers of a counter sample of these octets to the front of an array.
 fn fill_counters(octets: &[u8], offset: usize, length: usize, x: CountersSample, out: &mut [u64])
     requires { ⌜ 4 ≤ x .counters .at ⌝ }
     ensures { λ _. ⌜ now (out .exit) ≡ filled (2 ∷ offset ∷ length ∷ countersNumbers (now (octets .entry)) x) (now (out .entry)) ⌝ }
 {
-    let values = counter_data::read_counter_values(octets, x.counters.at - 4);
-    let answer = values.answer;
-    let count = counter_count(answer);
     fill(
         out,
         &[
@@ -172,10 +150,9 @@ fn fill_counters(octets: &[u8], offset: usize, length: usize, x: CountersSample,
             x.source_id as u64,
             x.sampling_interval as u64,
             x.counters.version as u64,
-            count,
         ],
     );
-    fill_values(values, out);
+    counters::fill_values(octets, x.counters.at - 4, out);
 }
 
 // Reads a sample at its type word. Answers 0 where it is well formed; the array takes:
