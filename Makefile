@@ -26,6 +26,7 @@ check:
 	rt check
 
 wrong:
+	python3 wrong-programs/fit
 	python3 wrong-programs/try
 
 library:

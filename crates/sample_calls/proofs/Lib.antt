@@ -1,3 +1,1 @@
-pub mod BodyNumbers
 pub mod CounterPlaces
-pub mod CounterRuns

@@ -5,8 +5,6 @@ use Rattle.sflow.specs.Decode.{decode}
 use Rattle.sflow.specs.Datagram.{counters-type}
 use Rattle.packet_data.specs.declared.PacketData.{PacketData}
 use Rattle.packet_data.specs.declared.PacketData.the-variants.{Header, Ipv4, Ipv6}
-use Rattle.counter_data.specs.declared.CounterAnswer.{CounterAnswer}
-use Rattle.counter_data.specs.declared.CounterAnswer.the-variants.{Found as FoundCount, Refused as RefusedCount}
 use Rattle.counter_data.specs.declared.CounterValues.{CounterValues}
 use Rattle.counter_data.specs.CounterBodies.{counterValuesOf}
 use Rattle.reader.specs.declared.sample.FlowWords.{FlowWords}
@@ -18,6 +16,7 @@ use Rattle.reader.specs.declared.sample.SampleRead.{SampleRead}
 use Rattle.reader.specs.declared.sample.SampleRead.the-variants.{Found as FoundSample, Refused as RefusedSample}
 use Rattle.numbers.specs.Reports.{Report, report, refusalReport}
 use Rattle.numbers.specs.Addresses.{quadNumbers}
+use Rattle.counter_calls.specs.CounterReports.{valueNumbers}
 
 -- the packet data type
 abbrev pub packetType : PacketData → ℕ
@@ -45,18 +44,9 @@ flowNumbers f =
     wordNumbers (f .words)
     ++ (packetType (f .«packet_data») ∷ f .«extended_data» .count ∷ f .«extended_data» .at ∷ packetNumbers (f .«packet_data»))
 
--- how many counters were found
-abbrev pub counterCount : CounterAnswer → ℕ
-counterCount (FoundCount c next) = c .count
-counterCount (RefusedCount why p) = 0
-
 -- the counters of a sample, read from the octets at their version word, 4 octets before the first counter
 abbrev pub countersIn : List ℕ → CountersSample → CounterValues
 countersIn s x = counterValuesOf (decode counters-type s (x .counters .at - 4))
-
--- how many counters there are, then the counters with zeros behind them, 37 numbers
-abbrev pub valueNumbers : CounterValues → List ℕ
-valueNumbers v = counterCount (v .answer) ∷ v .numbers
 
 -- the words, the counters version, then how many counters there are and the counters
 abbrev pub countersNumbers : List ℕ → CountersSample → List ℕ

@@ -1,6 +1,4 @@
 // Reading a sample as a function on numbers and slices. Crate export gives it to C and Rust.
-mod counters;
-
 use fields::address::Quad;
 use numbers::fill;
 use numbers::fill_behind;
@@ -152,7 +150,7 @@ fn fill_counters(octets: &[u8], offset: usize, length: usize, x: CountersSample,
             x.counters.version as u64,
         ],
     );
-    counters::fill_values(octets, x.counters.at - 4, out);
+    counter_calls::fill_values(octets, x.counters.at - 4, out);
 }
 
 // Reads a sample at its type word. Answers 0 where it is well formed; the array takes:

@@ -1,0 +1,2 @@
+pub mod BodyNumbers
+pub mod CounterRuns
