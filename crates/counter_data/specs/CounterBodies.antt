@@ -41,6 +41,8 @@ counterValuesOf (found v next) =
     }
 counterValuesOf (refused why p) = noValues why p
 
+-- ---- for private functions, which read a body counter by counter
+
 -- the counters of a version
 abbrev pub ofVersion : ℕ → List ℕ → Value counters-type
 ofVersion version vs = (version, vs)
