@@ -12,9 +12,19 @@ use Rattle.rules.specs.declared.RuleCheck.{RuleCheck}
 use Rattle.rules.specs.declared.RuleCheck.the-variants.{Fine, Breaks}
 use Rattle.rules.specs.Opcodes.{actionOf, isReturn}
 use Rattle.rules.specs.Records.{count, recordOf, ruleOf, declaredOf}
-use Rattle.rules.specs.Checks.{orElse, orBreaks, some, formOf, badQueue, aloneOf, escapes, nextDiffers, targetDiffers, returnDiffers, restOf, ruleCheck}
+use Rattle.rules.specs.Checks.{orElse, orBreaks, some, formOf, badQueue, aloneOf, comesBackNowhere, comesBackOtherwise, returnsNowhere, nextDiffers, targetDiffers, returnDiffers, restOf, ruleCheck}
 use Rattle.rules.proofs.Tests.{true-false}
-use Rattle.check_rules.specs.ByRecord.{byRecord, comesBackNowhere, comesBackOtherwise}
+
+-- what the record of rule i of n breaks by itself: 31 to 37, but for the Gosubs of a Return
+abbrev byRecord : ℕ → ℕ → RuleRecord → RuleCheck
+byRecord n i x = orElse (formOf (x .mark) (x .rule .attribute) (x .rule .opcode)) (aloneOf n i (x .rule) (x .declared))
+
+-- the Gosubs from which a Return, by its record, comes back at no rule, and at one that declares otherwise
+abbrev pub nowhereFrom : List ℕ → RuleRecord → ℕ → Bool
+nowhereFrom s x = comesBackNowhere (count s) (ruleOf s) (declaredOf s) (x .declared .home) (x .rule .parameter)
+
+abbrev pub otherwiseFrom : List ℕ → RuleRecord → ℕ → Bool
+otherwiseFrom s x = comesBackOtherwise (count s) (ruleOf s) (declaredOf s) (x .declared .home) (x .rule .parameter) (x .declared .held)
 
 else-joined : (a b c : RuleCheck) → orElse a (orElse b c) ≡ orElse (orElse a b) c
 else-joined Fine b c = refl
@@ -39,7 +49,7 @@ or-true false = refl
 
 -- of rule i, by its record
 module _ (s : List ℕ) (i : ℕ) (x : RuleRecord) (e : x ≡ recordOf s i) where
-  parts : ruleCheck s i ≡ orElse (byRecord (count s) i x) (orBreaks (escapes (count s) (ruleOf s) (declaredOf s) i) Target (restOf (count s) (ruleOf s) (declaredOf s) i))
+  parts : ruleCheck s i ≡ orElse (byRecord (count s) i x) (orBreaks (returnsNowhere (count s) (ruleOf s) (declaredOf s) i) Target (restOf (count s) (ruleOf s) (declaredOf s) i))
   unfolding ruleCheck
   parts = rw e (else-joined (formOf (recordOf s i .mark) (ruleOf s i .attribute) (ruleOf s i .opcode)) (aloneOf (count s) i (ruleOf s i) (declaredOf s i)) _)
 
@@ -48,36 +58,36 @@ module _ (s : List ℕ) (i : ℕ) (x : RuleRecord) (e : x ≡ recordOf s i) wher
 
   -- a Return that comes back from each Gosub at some rule, or no Return
   pub no-return : isReturn (actionOf (x .rule .opcode)) ≡ false
-      → (escapes (count s) (ruleOf s) (declaredOf s) i ≡ false) × (returnDiffers (count s) (ruleOf s) (declaredOf s) i ≡ false)
-  unfolding escapes
+      → (returnsNowhere (count s) (ruleOf s) (declaredOf s) i ≡ false) × (returnDiffers (count s) (ruleOf s) (declaredOf s) i ≡ false)
+  unfolding returnsNowhere
   no-return f = let g = rw e at f in (rw g refl, rw g refl)
 
-  pub goes-on : byRecord (count s) i x ≡ Fine → escapes (count s) (ruleOf s) (declaredOf s) i ≡ false
+  pub goes-on : byRecord (count s) i x ≡ Fine → returnsNowhere (count s) (ruleOf s) (declaredOf s) i ≡ false
       → ruleCheck s i ≡ restOf (count s) (ruleOf s) (declaredOf s) i
   goes-on f g = parts ∙ rw (f, g) refl
 
-  pub stays : some (comesBackNowhere s (count s) x) (count s) ≡ false → escapes (count s) (ruleOf s) (declaredOf s) i ≡ false
-  unfolding escapes
+  pub stays : some (nowhereFrom s x) (count s) ≡ false → returnsNowhere (count s) (ruleOf s) (declaredOf s) i ≡ false
+  unfolding returnsNowhere
   stays f = go (isReturn (actionOf (ruleOf s i .opcode)))
     where
-      go : (b : Bool) → b && some (comesBackNowhere s (count s) (recordOf s i)) (count s) ≡ false
+      go : (b : Bool) → b && some (nowhereFrom s (recordOf s i)) (count s) ≡ false
       go true = rw e at f
       go false = refl
 
-  pub agrees : some (comesBackOtherwise s x) (count s) ≡ false → returnDiffers (count s) (ruleOf s) (declaredOf s) i ≡ false
+  pub agrees : some (otherwiseFrom s x) (count s) ≡ false → returnDiffers (count s) (ruleOf s) (declaredOf s) i ≡ false
   agrees f = go (isReturn (actionOf (ruleOf s i .opcode)))
     where
-      go : (b : Bool) → b && some (comesBackOtherwise s (recordOf s i)) (count s) ≡ false
+      go : (b : Bool) → b && some (otherwiseFrom s (recordOf s i)) (count s) ≡ false
       go true = rw e at f
       go false = refl
 
-  pub breaks-target : byRecord (count s) i x ≡ Fine → isReturn (actionOf (x .rule .opcode)) ≡ true → some (comesBackNowhere s (count s) x) (count s) ≡ true
+  pub breaks-target : byRecord (count s) i x ≡ Fine → isReturn (actionOf (x .rule .opcode)) ≡ true → some (nowhereFrom s x) (count s) ≡ true
       → ruleCheck s i ≡ Breaks Target
-  unfolding escapes
+  unfolding returnsNowhere
   breaks-target f g h = parts ∙ rw (f, rw e at g, rw e at h) refl
 
-  pub breaks-successor : byRecord (count s) i x ≡ Fine → isReturn (actionOf (x .rule .opcode)) ≡ true → some (comesBackNowhere s (count s) x) (count s) ≡ false
-      → some (comesBackOtherwise s x) (count s) ≡ true → ruleCheck s i ≡ Breaks Successor
+  pub breaks-successor : byRecord (count s) i x ≡ Fine → isReturn (actionOf (x .rule .opcode)) ≡ true → some (nowhereFrom s x) (count s) ≡ false
+      → some (otherwiseFrom s x) (count s) ≡ true → ruleCheck s i ≡ Breaks Successor
   unfolding restOf
   breaks-successor f g h k =
       goes-on f (stays h)

@@ -13,8 +13,7 @@ ghost use Prim.Native.Nat.{_≤_};
 ghost use lib.Dec.{eqb, ltb};
 ghost use Rattle.rules.specs.Opcodes.{actionOf, isReturn, isGosub, gotoFlag};
 ghost use Rattle.rules.specs.Records.{count, ruleOf, declaredOf};
-ghost use Rattle.rules.specs.Checks.{known, badOpcode, formOf, differs, badTarget, aloneOf, badQueue, heldAfter, aims, nextDiffers, targetDiffers, returnDiffers, restOf, ruleCheck, named, firstOf, badLength, check};
-ghost use Rattle.check_rules.specs.ByRecord.{byRecord, comesBackNowhere, comesBackOtherwise};
+ghost use Rattle.rules.specs.Checks.{orElse, known, badOpcode, formOf, differs, badTarget, aloneOf, badQueue, heldAfter, aims, comesBackNowhere, comesBackOtherwise, nextDiffers, targetDiffers, returnDiffers, restOf, ruleCheck, named, firstOf, badLength, check};
 
 // ---- by a record alone
 
@@ -172,7 +171,7 @@ fn check_alone(n: usize, i: usize, rule: Rule, declared: Declared) -> RuleCheck
 
 // Refusals 31 to 37 of rule i of n, but for the Gosubs of a Return.
 fn check_record(n: usize, i: usize, own: RuleRecord) -> RuleCheck
-    ensures { λ r. ⌜ r ≡ byRecord n i own ⌝ }
+    ensures { λ r. ⌜ r ≡ orElse (formOf (own .mark) (own .rule .attribute) (own .rule .opcode)) (aloneOf n i (own .rule) (own .declared)) ⌝ }
 {
     let rule = own.rule;
     let declared = own.declared;
@@ -200,7 +199,7 @@ fn is_aimed(s: &[u8], home: usize, g: usize) -> bool
 // Whether rule g of n is a Gosub aimed at a Return's home, and the Return comes back from it at no rule.
 fn comes_back_nowhere(s: &[u8], n: usize, back: RuleRecord, g: usize) -> bool
     requires { ⌜ g ≤ n ⌝ }
-    ensures { λ r. ⌜ r ≡ comesBackNowhere (now (s .entry)) n back g ⌝ }
+    ensures { λ r. ⌜ r ≡ comesBackNowhere n (ruleOf (now (s .entry))) (declaredOf (now (s .entry))) (back .declared .home) (back .rule .parameter) g ⌝ }
 {
     let rule = back.rule;
     let declared = back.declared;
@@ -212,8 +211,9 @@ fn comes_back_nowhere(s: &[u8], n: usize, back: RuleRecord, g: usize) -> bool
 
 // Whether rule g is a Gosub aimed at a Return's home, and the rule that the Return comes back to declares otherwise.
 fn comes_back_otherwise(s: &[u8], back: RuleRecord, g: usize) -> bool
-    requires { ⌜ comesBackNowhere (now s) (count (now s)) back g ≡ false ⌝ }
-    ensures { λ r. ⌜ r ≡ comesBackOtherwise (now (s .entry)) back g ⌝ }
+    requires { ⌜ comesBackNowhere (count (now s)) (ruleOf (now s)) (declaredOf (now s)) (back .declared .home) (back .rule .parameter) g ≡ false ⌝ }
+    ensures { λ r. ⌜ r ≡ comesBackOtherwise (count (now (s .entry))) (ruleOf (now (s .entry))) (declaredOf (now (s .entry)))
+        (back .declared .home) (back .rule .parameter) (back .declared .held) g ⌝ }
 {
     let rule = back.rule;
     let declared = back.declared;

@@ -122,17 +122,17 @@ module _ (n : ℕ) (rule : ℕ → Rule) (declared : ℕ → Declared) where
   abbrev pub aims : ℕ → ℕ → Bool
   aims home g = isGosub (actionAt g) && eqb (rule g .parameter) home
 
-  -- g is a Gosub aimed at the home of Return i, to which it would come back at no rule
-  abbrev pub leaves : ℕ → ℕ → Bool
-  leaves i g = aims (declared i .home) g && not (leb (g + rule i .parameter) n)
+  -- g is a Gosub aimed at a Return's home, and g plus the Return's parameter is no rule
+  abbrev pub comesBackNowhere : ℕ → ℕ → ℕ → Bool
+  comesBackNowhere home parameter g = aims home g && not (leb (g + parameter) n)
 
-  -- g is such a Gosub, and where Return i comes back declares otherwise than the Gosub's home and depth and the Return's held
-  abbrev pub landsWrong : ℕ → ℕ → Bool
-  landsWrong i g = aims (declared i .home) g && differs (declared (g + rule i .parameter)) (declared g .home) (declared g .depth) (declared i .held)
+  -- g is a Gosub aimed at a Return's home, and the rule come back to declares otherwise than the Gosub's home and depth and the Return's held
+  abbrev pub comesBackOtherwise : ℕ → ℕ → ℕ → ℕ → Bool
+  comesBackOtherwise home parameter held g = aims home g && differs (declared (g + parameter)) (declared g .home) (declared g .depth) held
 
   -- 37 of a Return, over all Gosubs
-  unfoldable pub escapes : ℕ → Bool
-  escapes i = isReturn (actionAt i) && some (leaves i) n
+  unfoldable pub returnsNowhere : ℕ → Bool
+  returnsNowhere i = isReturn (actionAt i) && some (comesBackNowhere (declared i .home) (rule i .parameter)) n
 
   -- the next rule, if there is one and mask and value are not both 0, has the same three
   abbrev pub nextDiffers : ℕ → Bool
@@ -150,7 +150,7 @@ module _ (n : ℕ) (rule : ℕ → Rule) (declared : ℕ → Declared) where
 
   -- where a Return comes back, over all Gosubs
   abbrev pub returnDiffers : ℕ → Bool
-  returnDiffers i = isReturn (actionAt i) && some (landsWrong i) n
+  returnDiffers i = isReturn (actionAt i) && some (comesBackOtherwise (declared i .home) (rule i .parameter) (declared i .held)) n
 
   unfoldable pub restOf : ℕ → RuleCheck
   restOf i =
@@ -164,7 +164,7 @@ unfoldable pub ruleCheck : List ℕ → ℕ → RuleCheck
 ruleCheck s i =
     orElse (formOf (recordOf s i .mark) (ruleOf s i .attribute) (ruleOf s i .opcode))
     (orElse (aloneOf (count s) i (ruleOf s i) (declaredOf s i))
-    (orBreaks (escapes (count s) (ruleOf s) (declaredOf s) i) Target (restOf (count s) (ruleOf s) (declaredOf s) i)))
+    (orBreaks (returnsNowhere (count s) (ruleOf s) (declaredOf s) i) Target (restOf (count s) (ruleOf s) (declaredOf s) i)))
 
 abbrev pub named : RuleCheck → ℕ → CheckAnswer
 named Fine i = Accepted
