@@ -51,11 +51,11 @@ module _ (n : ℕ) (rule : ℕ → Rule) (declared : ℕ → Declared) where
     pub ahead : badTarget (actOf i) n i (rule i .parameter) ≡ false
     pub back-there : isReturn (actOf i) && someNowhere i ≡ false
     pub queue : badQueue (actOf i) (declared i .held) ≡ false
-    pub next : nextDiffers n rule declared i ≡ false
+    pub next : nextDiffers n rule declared i (rule i) (declared i) ≡ false
     pub target : gotoDiffers (actOf i) i ≡ false
     pub back : isReturn (actOf i) && someOtherwise i ≡ false
 
-  pub sound : (i : ℕ) → aloneOf n i (rule i) (declared i) ≡ Fine → returnsNowhere n rule declared i ≡ false → restOf n rule declared i ≡ Fine → Sound i
+  pub sound : (i : ℕ) → aloneOf n i (rule i) (declared i) ≡ Fine → returnsNowhere n rule declared (rule i) (declared i) ≡ false → restOf n rule declared i (rule i) (declared i) ≡ Fine → Sound i
   unfolding aloneOf returnsNowhere restOf
   sound i e x y =
       let a = fine-either _ _ _ e in
@@ -65,8 +65,8 @@ module _ (n : ℕ) (rule : ℕ → Rule) (declared : ℕ → Declared) where
       let f = fine-either _ _ _ y in
       let g = fine-either _ _ _ (f .1) in
       let o = or-false _ _ (a .0) in
-      let p = or-false (nextDiffers n rule declared i || targetDiffers n rule declared i) (returnDiffers n rule declared i) (g .0) in
-      let q = or-false (nextDiffers n rule declared i) (targetDiffers n rule declared i) (p .0) in
+      let p = or-false (nextDiffers n rule declared i (rule i) (declared i) || targetDiffers n rule declared (rule i) (declared i)) (returnDiffers n rule declared (rule i) (declared i)) (g .0) in
+      let q = or-false (nextDiffers n rule declared i (rule i) (declared i)) (targetDiffers n rule declared (rule i) (declared i)) (p .0) in
       record {
         deep = ltb-false _ _ (o .0);
         full = ltb-false _ _ (o .1);
