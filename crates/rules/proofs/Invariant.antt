@@ -16,7 +16,8 @@ use Rattle.rules.specs.declared.Action.the-variants.{Unknown, Ignore, No
 use Rattle.rules.specs.declared.RuleCheck.the-variants.{Fine}
 use Rattle.rules.specs.Opcodes.{actionOf, isReturn, isGosub, gotoFlag}
 use Rattle.rules.specs.Bits.{masked}
-use Rattle.rules.specs.Machine.{State, Outcome, running, ended, stuck, passes, goes, comesBack, drops, act, fails, step, advance, after, Room}
+use Rattle.rules.specs.Machine.{State, Outcome, running, ended, stuck, passes, goes, comesBack, drops, act, fails, step, advance, after}
+use Rattle.rules.specs.Room.{Room}
 use Rattle.rules.specs.Checks.{some, differs, badTarget, aloneOf, badQueue, heldAfter, aims, comesBackNowhere, comesBackOtherwise, returnsNowhere, nextDiffers, targetDiffers, returnDiffers, restOf}
 use Rattle.rules.specs.Demand.{bound, EndsAt}
 use Rattle.rules.proofs.Tests.{or-false, and-false, fine-either, some-false, differs-false}
