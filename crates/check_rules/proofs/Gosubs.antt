@@ -10,13 +10,9 @@ use Rattle.rules.specs.declared.Rule.{Rule}
 use Rattle.rules.specs.declared.Declared.{Declared}
 use Rattle.rules.specs.declared.RuleRecord.{RuleRecord}
 use Rattle.rules.specs.Opcodes.{actionOf, isGosub}
-use Rattle.rules.specs.Checks.{some, differs, aims}
+use Rattle.rules.specs.Checks.{some, differs, aims, comesBackNowhere, comesBackOtherwise}
 use Rattle.rules.proofs.Tests.{and-false, some-false}
 use Rattle.check_rules.proofs.Records.{not-leb}
-
--- what is asked of no Gosub that is aimed elsewhere
-pub aimed-elsewhere : (a b : Bool) → a ≡ false → false ≡ (a && b)
-aimed-elsewhere a b e = rw e refl
 
 room : (n g p : ℕ) → g ≤ n → ltb (n - g) p ≡ not (leb (g + p) n)
 room n g p h = go (ltb (n - g) p) refl ∙ sym (not-leb (g + p) n)
@@ -25,27 +21,31 @@ room n g p h = go (ltb (n - g) p) refl ∙ sym (not-leb (g + p) n)
     go true e = let l : n - g < p = ltb-true (n - g) p e in sym (lt-ltb n (g + p) (omega arith))
     go false e = let l : p ≤ n - g = ltb-false (n - g) p e in sym (le-ltb n (g + p) (omega arith))
 
--- the Return comes back from g to rule g + p: there is one, or not
-pub nowhere-is : (n g p : ℕ) (a : Bool) → g ≤ n → a ≡ true → ltb (n - g) p ≡ (a && not (leb (g + p) n))
-nowhere-is n g p a h e = rw e (room n g p h)
-
-pub comes-back : (n m : ℕ) (a : Bool) → a && not (leb m n) ≡ false → a ≡ true → m ≤ n
-comes-back n m a e f = leb-true m n (not-false _ (and-false a _ e f))
-
-module _ (at : ℕ → RuleRecord) where
+-- rule g, as it is read, and whether it is a Gosub aimed at a home
+module _ (at : ℕ → RuleRecord) (home g : ℕ) (x : RuleRecord) (a : Bool) (e : x ≡ at g) (f : a ≡ (isGosub (actionOf (x .rule .opcode)) && eqb (x .rule .parameter) home)) where
   abbrev rule : ℕ → Rule
   rule i = at i .rule
 
   abbrev declared : ℕ → Declared
   declared i = at i .declared
 
-  pub aims-is : (n home g : ℕ) (x : RuleRecord) (b : Bool) → x ≡ at g → b ≡ isGosub (actionOf (x .rule .opcode))
-      → b && eqb (x .rule .parameter) home ≡ aims n rule declared home g
-  aims-is n home g x b e f = rw (f, e) refl
+  aimed : (n : ℕ) → a ≡ aims n rule declared home g
+  aimed n = rw (f, e) refl
 
-  pub otherwise-is : (m g held : ℕ) (a : Bool) (x y : RuleRecord) → a ≡ true → x ≡ at m → y ≡ at g
-      → differs (x .declared) (y .declared .home) (y .declared .depth) held ≡ (a && differs (at m .declared) (at g .declared .home) (at g .declared .depth) held)
-  otherwise-is m g held a x y e f h = rw (e, f, h) refl
+  -- what is asked of no rule that is not
+  pub not-aimed : (n : ℕ) (b : Bool) → a ≡ false → false ≡ (aims n rule declared home g && b)
+  not-aimed n b h = rw (sym (aimed n) ∙ h) refl
+
+  -- a Return comes back from g to rule g + p: there is one, or not
+  pub nowhere-is : (n p : ℕ) → g ≤ n → a ≡ true → ltb (n - g) p ≡ comesBackNowhere n rule declared home p g
+  nowhere-is n p l h = rw (sym (aimed n) ∙ h) (room n g p l)
+
+  pub comes-back : (n p : ℕ) → comesBackNowhere n rule declared home p g ≡ false → a ≡ true → g + p ≤ n
+  comes-back n p k h = leb-true (g + p) n (not-false _ (and-false (aims n rule declared home g) _ k (sym (aimed n) ∙ h)))
+
+  pub otherwise-is : (n p held : ℕ) (y : RuleRecord) → a ≡ true → y ≡ at (g + p)
+      → differs (y .declared) (x .declared .home) (x .declared .depth) held ≡ comesBackOtherwise n rule declared home p held g
+  otherwise-is n p held y h k = rw (sym (aimed n) ∙ h, k, e) refl
 
 -- ---- all rules from 1 to n
 

@@ -12,9 +12,19 @@ use Rattle.rules.specs.declared.RuleCheck.{RuleCheck}
 use Rattle.rules.specs.declared.RuleCheck.the-variants.{Fine, Breaks}
 use Rattle.rules.specs.Opcodes.{actionOf, isReturn}
 use Rattle.rules.specs.Records.{count, recordOf, ruleOf, declaredOf}
-use Rattle.rules.specs.Checks.{orElse, orBreaks, some, formOf, badQueue, aloneOf, escapes, nextDiffers, targetDiffers, returnDiffers, restOf, ruleCheck}
+use Rattle.rules.specs.Checks.{orElse, orBreaks, some, formOf, badQueue, aloneOf, comesBackNowhere, comesBackOtherwise, returnsNowhere, nextDiffers, targetDiffers, returnDiffers, restOf, ruleCheck}
 use Rattle.rules.proofs.Tests.{true-false}
-use Rattle.check_rules.specs.ByRecord.{byRecord, comesBackNowhere, comesBackOtherwise}
+
+-- what the record of rule i of n breaks by itself: 31 to 37, but for the Gosubs of a Return
+abbrev byRecord : ℕ → ℕ → RuleRecord → RuleCheck
+byRecord n i x = orElse (formOf (x .mark) (x .rule .attribute) (x .rule .opcode)) (aloneOf n i (x .rule) (x .declared))
+
+-- the Gosubs from which a Return, by its record, comes back at no rule, and at one that declares otherwise
+abbrev pub nowhereFrom : List ℕ → RuleRecord → ℕ → Bool
+nowhereFrom s x = comesBackNowhere (count s) (ruleOf s) (declaredOf s) (x .declared .home) (x .rule .parameter)
+
+abbrev pub otherwiseFrom : List ℕ → RuleRecord → ℕ → Bool
+otherwiseFrom s x = comesBackOtherwise (count s) (ruleOf s) (declaredOf s) (x .declared .home) (x .rule .parameter) (x .declared .held)
 
 else-joined : (a b c : RuleCheck) → orElse a (orElse b c) ≡ orElse (orElse a b) c
 else-joined Fine b c = refl
@@ -37,53 +47,52 @@ or-true : (b : Bool) → b || true ≡ true
 or-true true = refl
 or-true false = refl
 
--- of rule i, by its record
-module _ (s : List ℕ) (i : ℕ) (x : RuleRecord) (e : x ≡ recordOf s i) where
-  parts : ruleCheck s i ≡ orElse (byRecord (count s) i x) (orBreaks (escapes (count s) (ruleOf s) (declaredOf s) i) Target (restOf (count s) (ruleOf s) (declaredOf s) i))
-  unfolding ruleCheck
-  parts = rw e (else-joined (formOf (recordOf s i .mark) (ruleOf s i .attribute) (ruleOf s i .opcode)) (aloneOf (count s) i (ruleOf s i) (declaredOf s i)) _)
+-- of a rule with this record
+module _ (s : List ℕ) (x : RuleRecord) where
+  -- a Return that comes back from each Gosub at some rule, and at one that declares the same; or no Return
+  abbrev pub Kept : Type 0
+  Kept =
+      (returnsNowhere (count s) (ruleOf s) (declaredOf s) (x .rule) (x .declared) ≡ false)
+      × (returnDiffers (count s) (ruleOf s) (declaredOf s) (x .rule) (x .declared) ≡ false)
 
-  pub breaks-alone : (why : CheckRefusal) → byRecord (count s) i x ≡ Breaks why → ruleCheck s i ≡ Breaks why
-  breaks-alone why f = parts ∙ rw f refl
+  pub no-return : isReturn (actionOf (x .rule .opcode)) ≡ false → Kept
+  unfolding returnsNowhere
+  no-return f = (rw f refl, rw f refl)
 
-  -- a Return that comes back from each Gosub at some rule, or no Return
-  pub no-return : isReturn (actionOf (x .rule .opcode)) ≡ false
-      → (escapes (count s) (ruleOf s) (declaredOf s) i ≡ false) × (returnDiffers (count s) (ruleOf s) (declaredOf s) i ≡ false)
-  unfolding escapes
-  no-return f = let g = rw e at f in (rw g refl, rw g refl)
-
-  pub goes-on : byRecord (count s) i x ≡ Fine → escapes (count s) (ruleOf s) (declaredOf s) i ≡ false
-      → ruleCheck s i ≡ restOf (count s) (ruleOf s) (declaredOf s) i
-  goes-on f g = parts ∙ rw (f, g) refl
-
-  pub stays : some (comesBackNowhere s (count s) x) (count s) ≡ false → escapes (count s) (ruleOf s) (declaredOf s) i ≡ false
-  unfolding escapes
-  stays f = go (isReturn (actionOf (ruleOf s i .opcode)))
+  pub comes-back : some (nowhereFrom s x) (count s) ≡ false → some (otherwiseFrom s x) (count s) ≡ false → Kept
+  unfolding returnsNowhere
+  comes-back f g = (go (isReturn (actionOf (x .rule .opcode))) _ f, go (isReturn (actionOf (x .rule .opcode))) _ g)
     where
-      go : (b : Bool) → b && some (comesBackNowhere s (count s) (recordOf s i)) (count s) ≡ false
-      go true = rw e at f
-      go false = refl
+      go : (b c : Bool) → c ≡ false → b && c ≡ false
+      go true c h = h
+      go false c h = refl
 
-  pub agrees : some (comesBackOtherwise s x) (count s) ≡ false → returnDiffers (count s) (ruleOf s) (declaredOf s) i ≡ false
-  agrees f = go (isReturn (actionOf (ruleOf s i .opcode)))
-    where
-      go : (b : Bool) → b && some (comesBackOtherwise s (recordOf s i)) (count s) ≡ false
-      go true = rw e at f
-      go false = refl
+  -- of rule i
+  module _ (i : ℕ) (e : x ≡ recordOf s i) where
+    parts : ruleCheck s i ≡ orElse (byRecord (count s) i x) (orBreaks (returnsNowhere (count s) (ruleOf s) (declaredOf s) (x .rule) (x .declared)) Target (restOf (count s) (ruleOf s) (declaredOf s) i (x .rule) (x .declared)))
+    unfolding ruleCheck
+    parts = rw e (else-joined (formOf (recordOf s i .mark) (ruleOf s i .attribute) (ruleOf s i .opcode)) (aloneOf (count s) i (ruleOf s i) (declaredOf s i)) _)
 
-  pub breaks-target : byRecord (count s) i x ≡ Fine → isReturn (actionOf (x .rule .opcode)) ≡ true → some (comesBackNowhere s (count s) x) (count s) ≡ true
-      → ruleCheck s i ≡ Breaks Target
-  unfolding escapes
-  breaks-target f g h = parts ∙ rw (f, rw e at g, rw e at h) refl
+    pub breaks-alone : (why : CheckRefusal) → byRecord (count s) i x ≡ Breaks why → ruleCheck s i ≡ Breaks why
+    breaks-alone why f = parts ∙ rw f refl
 
-  pub breaks-successor : byRecord (count s) i x ≡ Fine → isReturn (actionOf (x .rule .opcode)) ≡ true → some (comesBackNowhere s (count s) x) (count s) ≡ false
-      → some (comesBackOtherwise s x) (count s) ≡ true → ruleCheck s i ≡ Breaks Successor
-  unfolding restOf
-  breaks-successor f g h k =
-      goes-on f (stays h)
-      ∙ rw (
-        return-queue (actionOf (ruleOf s i .opcode)) (declaredOf s i .held) (rw e at g),
-        rw e at g,
-        rw e at k,
-        or-true (nextDiffers (count s) (ruleOf s) (declaredOf s) i || targetDiffers (count s) (ruleOf s) (declaredOf s) i),
-      ) refl
+    pub goes-on : byRecord (count s) i x ≡ Fine → returnsNowhere (count s) (ruleOf s) (declaredOf s) (x .rule) (x .declared) ≡ false
+        → ruleCheck s i ≡ restOf (count s) (ruleOf s) (declaredOf s) i (x .rule) (x .declared)
+    goes-on f g = parts ∙ rw (f, g) refl
+
+    pub breaks-target : byRecord (count s) i x ≡ Fine → isReturn (actionOf (x .rule .opcode)) ≡ true → some (nowhereFrom s x) (count s) ≡ true
+        → ruleCheck s i ≡ Breaks Target
+    unfolding returnsNowhere
+    breaks-target f g h = parts ∙ rw (f, g, h) refl
+
+    pub breaks-successor : byRecord (count s) i x ≡ Fine → isReturn (actionOf (x .rule .opcode)) ≡ true → some (nowhereFrom s x) (count s) ≡ false
+        → some (otherwiseFrom s x) (count s) ≡ true → ruleCheck s i ≡ Breaks Successor
+    unfolding returnsNowhere restOf
+    breaks-successor f g h k =
+        goes-on f (rw (g, h) refl)
+        ∙ rw (
+          return-queue (actionOf (x .rule .opcode)) (x .declared .held) g,
+          g,
+          k,
+          or-true (nextDiffers (count s) (ruleOf s) (declaredOf s) i (x .rule) (x .declared) || targetDiffers (count s) (ruleOf s) (declaredOf s) (x .rule) (x .declared)),
+        ) refl

@@ -1,10 +1,10 @@
 -- The rules that a rule goes to itself, and its queue: refusals 38 and 39. Assumes nothing.
-use Prim.Native.Nat.{ℕ, _+_, _≤_, _<_}
+use Prim.Native.Nat.{ℕ, _+_, _≤_}
 use native.Mathlib.Omega.{arith}
-use mathlib.Core.Path.{_≡_, refl}
+use mathlib.Core.Path.{_≡_, refl, _∙_}
 use mathlib.Core.Bool.{Bool, true, false, not, _&&_, _||_}
-use lib.Dec.{eqb}
-use borrow.Author.Tests.{lt-ltb, le-ltb, eqb-false}
+use lib.Dec.{ltb, eqb}
+use borrow.Author.Tests.{eqb-false}
 use Rattle.rules.specs.declared.Rule.{Rule}
 use Rattle.rules.specs.declared.Declared.{Declared}
 use Rattle.rules.specs.declared.RuleRecord.{RuleRecord}
@@ -21,41 +21,45 @@ item-there a t held e f =
     let z : (held ≡ 0 → ⊥) = eqb-false held 0 (rw e at f) in
     omega arith
 
--- the test of the queue, of the rule as it is read and as it is
-module _ (at : ℕ → RuleRecord) (i : ℕ) (x : RuleRecord) (a : Action) (e : x ≡ at i) (f : a ≡ actionOf (x .rule .opcode)) where
-  pub held-fine : badQueue (actionOf (at i .rule .opcode)) (at i .declared .held) ≡ false → badQueue a (x .declared .held) ≡ false
-  held-fine h = rw (f, e) h
+either : (a b : Bool) → a || b ≡ b || a || false
+either true true = refl
+either true false = refl
+either false true = refl
+either false false = refl
 
-  pub queue-fine : badQueue a (x .declared .held) ≡ false → badQueue (actionOf (at i .rule .opcode)) (at i .declared .held) ≡ false
-  queue-fine h = rw (f, e) at h
+both : (a b c : Bool) → a && b && c ≡ b && a && c
+both true true c = refl
+both true false c = refl
+both false true c = refl
+both false false c = refl
 
-module _ (at : ℕ → RuleRecord) (n i : ℕ) where
+-- of a rule with this record
+module _ (at : ℕ → RuleRecord) (n : ℕ) (x : RuleRecord) where
   abbrev rule : ℕ → Rule
   rule j = at j .rule
 
   abbrev declared : ℕ → Declared
   declared j = at j .declared
 
-  pub no-next : n ≤ i → false ≡ nextDiffers n rule declared i
-  no-next h = rw (le-ltb i n h) refl
+  pub next-is : (i : ℕ) (y : RuleRecord) (z b : Bool) → z ≡ (eqb (x .rule .mask) 0 && eqb (x .rule .value) 0) → b ≡ ltb i n → y ≡ at (i + 1)
+      → not z && b && differs (y .declared) (x .declared .home) (x .declared .depth) (x .declared .held) ≡ nextDiffers n rule declared i (x .rule) (x .declared)
+  next-is i y z b e f g = both (not z) b (differs (y .declared) (x .declared .home) (x .declared .depth) (x .declared .held)) ∙ rw (e, f, g) refl
 
-  pub next-is : (x y : RuleRecord) (z : Bool) → i < n → x ≡ at i → z ≡ (eqb (x .rule .mask) 0 && eqb (x .rule .value) 0) → y ≡ at (i + 1)
-      → not z && differs (y .declared) (x .declared .home) (x .declared .depth) (x .declared .held) ≡ nextDiffers n rule declared i
-  next-is x y z h e f g = rw (f, e, g, lt-ltb i n h) refl
+  -- and with this action
+  module _ (a : Action) (e : a ≡ actionOf (x .rule .opcode)) where
+    pub no-target : gotoFlag a ≡ false → false ≡ targetDiffers n rule declared (x .rule) (x .declared)
+    no-target f = rw (rw e at f) refl
 
-  pub no-target : (x : RuleRecord) → x ≡ at i → gotoFlag (actionOf (x .rule .opcode)) ≡ false → false ≡ targetDiffers n rule declared i
-  no-target x e f = rw (rw e at f) refl
+    pub gosub-target : (y : RuleRecord) → y ≡ at (x .rule .parameter) → gotoFlag a ≡ true → isGosub a ≡ true
+        → differs (y .declared) (x .rule .parameter) (x .declared .depth + 1) (x .declared .held) ≡ targetDiffers n rule declared (x .rule) (x .declared)
+    gosub-target y f g h = rw (rw e at g, rw e at h, f) refl
 
-  pub gosub-target : (x y : RuleRecord) → x ≡ at i → y ≡ at (x .rule .parameter) → gotoFlag (actionOf (x .rule .opcode)) ≡ true → isGosub (actionOf (x .rule .opcode)) ≡ true
-      → differs (y .declared) (x .rule .parameter) (x .declared .depth + 1) (x .declared .held) ≡ targetDiffers n rule declared i
-  gosub-target x y e f g h = rw (rw e at g, rw e at h, f, e) refl
+    pub other-target : (y : RuleRecord) (held : ℕ) → y ≡ at (x .rule .parameter) → gotoFlag a ≡ true → isGosub a ≡ false → held ≡ heldAfter a (x .declared .held)
+        → differs (y .declared) (x .declared .home) (x .declared .depth) held ≡ targetDiffers n rule declared (x .rule) (x .declared)
+    other-target y held f g h k = rw (rw e at g, rw e at h, f, k, e) refl
 
-  pub other-target : (x y : RuleRecord) → x ≡ at i → y ≡ at (x .rule .parameter) → gotoFlag (actionOf (x .rule .opcode)) ≡ true → isGosub (actionOf (x .rule .opcode)) ≡ false
-      → differs (y .declared) (x .declared .home) (x .declared .depth) (heldAfter (actionOf (x .rule .opcode)) (x .declared .held)) ≡ targetDiffers n rule declared i
-  other-target x y e f g h = rw (rw e at g, rw e at h, f, e) refl
-
-  pub rest-is : (x : RuleRecord) (a b c : Bool) → x ≡ at i → a ≡ badQueue (actionOf (x .rule .opcode)) (x .declared .held)
-      → b ≡ nextDiffers n rule declared i → c ≡ targetDiffers n rule declared i → returnDiffers n rule declared i ≡ false
-      → orBreaks a Queue (orBreaks (b || c || false) Successor Fine) ≡ restOf n rule declared i
-  unfolding restOf
-  rest-is x a b c e f g h k = rw (f, g, h, k, e) refl
+    pub rest-is : (i : ℕ) (p q r : Bool) → p ≡ badQueue a (x .declared .held) → q ≡ targetDiffers n rule declared (x .rule) (x .declared)
+        → r ≡ nextDiffers n rule declared i (x .rule) (x .declared) → returnDiffers n rule declared (x .rule) (x .declared) ≡ false
+        → orBreaks p Queue (orBreaks (q || r) Successor Fine) ≡ restOf n rule declared i (x .rule) (x .declared)
+    unfolding restOf
+    rest-is i p q r f g h k = rw (either q r, f, g, h, k, e) refl

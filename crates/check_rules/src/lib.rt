@@ -13,8 +13,7 @@ ghost use Prim.Native.Nat.{_≤_};
 ghost use lib.Dec.{eqb, ltb};
 ghost use Rattle.rules.specs.Opcodes.{actionOf, isReturn, isGosub, gotoFlag};
 ghost use Rattle.rules.specs.Records.{count, ruleOf, declaredOf};
-ghost use Rattle.rules.specs.Checks.{known, badOpcode, formOf, differs, badTarget, aloneOf, badQueue, heldAfter, aims, nextDiffers, targetDiffers, returnDiffers, restOf, ruleCheck, named, firstOf, badLength, check};
-ghost use Rattle.check_rules.specs.ByRecord.{byRecord, comesBackNowhere, comesBackOtherwise};
+ghost use Rattle.rules.specs.Checks.{orElse, known, badOpcode, formOf, differs, badTarget, aloneOf, badQueue, heldAfter, comesBackNowhere, comesBackOtherwise, nextDiffers, targetDiffers, returnDiffers, restOf, ruleCheck, named, firstOf, badLength, check};
 
 // ---- by a record alone
 
@@ -172,7 +171,7 @@ fn check_alone(n: usize, i: usize, rule: Rule, declared: Declared) -> RuleCheck
 
 // Refusals 31 to 37 of rule i of n, but for the Gosubs of a Return.
 fn check_record(n: usize, i: usize, own: RuleRecord) -> RuleCheck
-    ensures { λ r. ⌜ r ≡ byRecord n i own ⌝ }
+    ensures { λ r. ⌜ r ≡ orElse (formOf (own .mark) (own .rule .attribute) (own .rule .opcode)) (aloneOf n i (own .rule) (own .declared)) ⌝ }
 {
     let rule = own.rule;
     let declared = own.declared;
@@ -185,14 +184,12 @@ fn check_record(n: usize, i: usize, own: RuleRecord) -> RuleCheck
 
 // ---- by other rules as they stand
 
-// Whether rule g is a Gosub aimed at a home.
-fn is_aimed(s: &[u8], home: usize, g: usize) -> bool
-    ensures { λ r. ⌜ r ≡ aims (count (now (s .entry))) (ruleOf (now (s .entry))) (declaredOf (now (s .entry))) home g ⌝ }
+// Whether a rule is a Gosub aimed at a home.
+fn is_aimed(gosub: Rule, home: usize) -> bool
+    ensures { λ r. ⌜ r ≡ (isGosub (actionOf (gosub .opcode)) && eqb (gosub .parameter) home) ⌝ }
 {
-    let gosub = rules::record_at(s, g);
-    let rule = gosub.rule;
-    if is_gosub(rules::action_of(rule.opcode)) {
-        return rule.parameter == home;
+    if is_gosub(rules::action_of(gosub.opcode)) {
+        return gosub.parameter == home;
     }
     false
 }
@@ -200,11 +197,13 @@ fn is_aimed(s: &[u8], home: usize, g: usize) -> bool
 // Whether rule g of n is a Gosub aimed at a Return's home, and the Return comes back from it at no rule.
 fn comes_back_nowhere(s: &[u8], n: usize, back: RuleRecord, g: usize) -> bool
     requires { ⌜ g ≤ n ⌝ }
-    ensures { λ r. ⌜ r ≡ comesBackNowhere (now (s .entry)) n back g ⌝ }
+    ensures { λ r. ⌜ r ≡ comesBackNowhere n (ruleOf (now (s .entry))) (declaredOf (now (s .entry))) (back .declared .home) (back .rule .parameter) g ⌝ }
 {
     let rule = back.rule;
     let declared = back.declared;
-    if is_aimed(s, declared.home, g) {
+    let call = rules::record_at(s, g);
+    let gosub = call.rule;
+    if is_aimed(gosub, declared.home) {
         return n - g < rule.parameter;
     }
     false
@@ -212,20 +211,22 @@ fn comes_back_nowhere(s: &[u8], n: usize, back: RuleRecord, g: usize) -> bool
 
 // Whether rule g is a Gosub aimed at a Return's home, and the rule that the Return comes back to declares otherwise.
 fn comes_back_otherwise(s: &[u8], back: RuleRecord, g: usize) -> bool
-    requires { ⌜ comesBackNowhere (now s) (count (now s)) back g ≡ false ⌝ }
-    ensures { λ r. ⌜ r ≡ comesBackOtherwise (now (s .entry)) back g ⌝ }
+    requires { ⌜ comesBackNowhere (count (now s)) (ruleOf (now s)) (declaredOf (now s)) (back .declared .home) (back .rule .parameter) g ≡ false ⌝ }
+    ensures { λ r. ⌜ r ≡ comesBackOtherwise (count (now (s .entry))) (ruleOf (now (s .entry))) (declaredOf (now (s .entry)))
+        (back .declared .home) (back .rule .parameter) (back .declared .held) g ⌝ }
 {
     let rule = back.rule;
     let declared = back.declared;
-    if is_aimed(s, declared.home, g) {
+    let call = rules::record_at(s, g);
+    let gosub = call.rule;
+    if is_aimed(gosub, declared.home) {
         let target = rules::record_at(s, g + rule.parameter);
-        let gosub = rules::record_at(s, g);
         let there = target.declared;
-        let call = gosub.declared;
+        let here = call.declared;
         return declares_otherwise(
             there,
-            call.home,
-            call.depth as usize,
+            here.home,
+            here.depth as usize,
             declared.held as usize,
         );
     }
@@ -269,15 +270,14 @@ fn are_both_zero(mask: u32, value: u32) -> bool
 }
 
 // Whether rule i of n can go to the next rule, and that declares otherwise.
-fn next_differs(s: &[u8], n: usize, i: usize) -> bool
-    ensures { λ r. ⌜ r ≡ nextDiffers n (ruleOf (now (s .entry))) (declaredOf (now (s .entry))) i ⌝ }
+fn next_differs(s: &[u8], n: usize, i: usize, own: RuleRecord) -> bool
+    ensures { λ r. ⌜ r ≡ nextDiffers n (ruleOf (now (s .entry))) (declaredOf (now (s .entry))) i (own .rule) (own .declared) ⌝ }
 {
-    if n <= i {
-        return false;
-    }
-    let own = rules::record_at(s, i);
     let rule = own.rule;
     if are_both_zero(rule.mask, rule.value) {
+        return false;
+    }
+    if n <= i {
         return false;
     }
     let next = rules::record_at(s, i + 1);
@@ -291,15 +291,13 @@ fn next_differs(s: &[u8], n: usize, i: usize) -> bool
     )
 }
 
-// Whether rule i has a goto flag, and its target declares otherwise.
-fn target_differs(s: &[u8], i: usize) -> bool
-    requires { ⌜ badQueue (actionOf (ruleOf (now s) i .opcode)) (declaredOf (now s) i .held) ≡ false ⌝ }
-    ensures { λ r. ⌜ r ≡ targetDiffers (count (now (s .entry))) (ruleOf (now (s .entry))) (declaredOf (now (s .entry))) i ⌝ }
+// Whether a rule's action has a goto flag, and its target declares otherwise.
+fn target_differs(s: &[u8], own: RuleRecord, action: Action) -> bool
+    requires { ⌜ (action ≡ actionOf (own .rule .opcode)) × (badQueue action (own .declared .held) ≡ false) ⌝ }
+    ensures { λ r. ⌜ r ≡ targetDiffers (count (now (s .entry))) (ruleOf (now (s .entry))) (declaredOf (now (s .entry))) (own .rule) (own .declared) ⌝ }
 {
-    let own = rules::record_at(s, i);
     let rule = own.rule;
     let declared = own.declared;
-    let action = rules::action_of(rule.opcode);
     if has_goto_flag(action) {
         let target = rules::record_at(s, rule.parameter);
         let there = target.declared;
@@ -322,20 +320,20 @@ fn target_differs(s: &[u8], i: usize) -> bool
 }
 
 // Refusals 38 and 39 of rule i of n, but for the Gosubs of a Return.
-fn check_rest(s: &[u8], n: usize, i: usize) -> RuleCheck
-    requires { ⌜ returnDiffers n (ruleOf (now s)) (declaredOf (now s)) i ≡ false ⌝ }
-    ensures { λ r. ⌜ r ≡ restOf n (ruleOf (now (s .entry))) (declaredOf (now (s .entry))) i ⌝ }
+fn check_rest(s: &[u8], n: usize, i: usize, own: RuleRecord) -> RuleCheck
+    requires { ⌜ returnDiffers n (ruleOf (now s)) (declaredOf (now s)) (own .rule) (own .declared) ≡ false ⌝ }
+    ensures { λ r. ⌜ r ≡ restOf n (ruleOf (now (s .entry))) (declaredOf (now (s .entry))) i (own .rule) (own .declared) ⌝ }
 {
-    let own = rules::record_at(s, i);
     let rule = own.rule;
     let declared = own.declared;
-    if is_bad_queue(rules::action_of(rule.opcode), declared.held) {
+    let action = rules::action_of(rule.opcode);
+    if is_bad_queue(action, declared.held) {
         return RuleCheck::Breaks(CheckRefusal::Queue);
     }
-    if next_differs(s, n, i) {
+    if target_differs(s, own, action) {
         return RuleCheck::Breaks(CheckRefusal::Successor);
     }
-    if target_differs(s, i) {
+    if next_differs(s, n, i, own) {
         return RuleCheck::Breaks(CheckRefusal::Successor);
     }
     RuleCheck::Fine
@@ -398,7 +396,7 @@ fn first_refusal(s: &[u8]) -> CheckAnswer
                 }
             }
         }
-        found = check_rest(s, n, i);
+        found = check_rest(s, n, i, own);
         let RuleCheck::Fine = found else {
             break 'rules;
         };

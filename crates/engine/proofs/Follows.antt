@@ -11,18 +11,19 @@ use Rattle.rules.specs.declared.Action.{Action}
 use Rattle.rules.specs.declared.Action.the-variants.{Return}
 use Rattle.rules.specs.Opcodes.{actionOf}
 use Rattle.rules.specs.Records.{count, ruleOf, declaredOf}
-use Rattle.rules.specs.Machine.{State, Outcome, running, ended, stuck, step, advance, after, Room}
+use Rattle.rules.specs.Machine.{State, Outcome, running, ended, stuck, step, advance, after}
+use Rattle.rules.specs.Room.{Room}
 use Rattle.rules.specs.Checks.{check}
 use Rattle.rules.specs.Demand.{bound, WithinLimits}
 use Rattle.rules.proofs.Measure.{left, left-pos}
 use Rattle.rules.proofs.Invariant.{Inv, Good, Reached, room, step-good, back-within}
 use Rattle.rules.proofs.Accepted.{accepted-set}
 use Rattle.rules.proofs.Demand.{all-sound, all-act, reach, demand-3, stays-later}
-use Rattle.engine.specs.declared.Meter.{Meter}
+use Rattle.engine.specs.declared.EngineState.{EngineState}
 use Rattle.engine.specs.declared.EngineResult.{EngineResult}
-use Rattle.engine.specs.Meters.{stackOf, itemOf, queued, stateOf, told, outcomeOf, Live}
+use Rattle.engine.specs.EngineStates.{stackOf, itemOf, queued, stateOf, told, outcomeOf, Live}
 use Rattle.engine.specs.Results.{answerOf, keyOf, resultOf}
-use Rattle.engine.proofs.Meters.{stack-pop}
+use Rattle.engine.proofs.EngineStates.{stack-pop}
 
 stack-length : (l : List ℕ) (d : ℕ) → length (stackOf l d) ≡ d
 stack-length l zero = refl
@@ -41,7 +42,7 @@ told-rules : (a : ℕ) (s : State) → rulesOf (told a s) ≡ s .rules
 told-rules zero s = refl
 told-rules (suc a) s = refl
 
-module _ (s : List ℕ) (e : check s ≡ Accepted) (at : ℕ → ℕ) (m : Meter) (f : outcomeOf (ruleOf s) at m ≡ after (count s) (ruleOf s) at (m .rules)) where
+module _ (s : List ℕ) (e : check s ≡ Accepted) (at : ℕ → ℕ) (m : EngineState) (f : outcomeOf (ruleOf s) at m ≡ after (count s) (ruleOf s) at (m .rules)) where
   abbrev n : ℕ
   n = count s
 
@@ -96,7 +97,7 @@ module _ (s : List ℕ) (e : check s ≡ Accepted) (at : ℕ → ℕ) (m : Meter
     good-rules stuck g = absurd g
 
     -- after a step
-    module _ (x : Meter) (h : outcomeOf (ruleOf s) at x ≡ step n (ruleOf s) at (stateOf (ruleOf s) at m)) where
+    module _ (x : EngineState) (h : outcomeOf (ruleOf s) at x ≡ step n (ruleOf s) at (stateOf (ruleOf s) at m)) where
       pub stepped-rules : x .rules ≡ m .rules + 1
       stepped-rules =
           sym (told-rules (x .answer) (stateOf (ruleOf s) at x)) ∙ ap rulesOf h
@@ -123,7 +124,7 @@ module _ (s : List ℕ) (e : check s ≡ Accepted) (at : ℕ → ℕ) (m : Meter
 
 -- ---- the state at the machine's end
 
-module _ (s : List ℕ) (e : check s ≡ Accepted) (at : ℕ → ℕ) (m : Meter) (f : outcomeOf (ruleOf s) at m ≡ after (count s) (ruleOf s) at (bound (count s))) where
+module _ (s : List ℕ) (e : check s ≡ Accepted) (at : ℕ → ℕ) (m : EngineState) (f : outcomeOf (ruleOf s) at m ≡ after (count s) (ruleOf s) at (bound (count s))) where
   answered : (m .answer ≡ 0 → ⊥)
   answered z =
       let d = demand-3 s e at .ends in

@@ -13,9 +13,9 @@ use Rattle.rules.specs.declared.Rule.{Rule}
 use Rattle.rules.specs.declared.Item.{Item}
 use Rattle.rules.specs.Opcodes.{actionOf}
 use Rattle.engine.specs.declared.FlowKey.{FlowKey}
-use Rattle.engine.specs.Meters.{stackOf, queuesPacket, itemOf}
+use Rattle.engine.specs.EngineStates.{stackOf, queuesPacket, itemOf}
 use Rattle.engine.specs.Results.{zeroKey, put, keyOf}
-use Rattle.engine.proofs.Meters.{packet-item}
+use Rattle.engine.proofs.EngineStates.{packet-item}
 
 -- ---- items
 

@@ -1,4 +1,5 @@
-pub mod Meters
+pub mod EngineStates
 pub mod Follows
 pub mod Keys
 pub mod Results
+pub mod Ends

@@ -21,10 +21,10 @@ use Rattle.rules.specs.Records.{count, ruleOf}
 use Rattle.rules.specs.Machine.{after}
 use Rattle.rules.specs.Checks.{check}
 use Rattle.rules.specs.Demand.{bound}
-use Rattle.engine.specs.declared.Meter.{Meter}
+use Rattle.engine.specs.declared.EngineState.{EngineState}
 use Rattle.engine.specs.declared.EngineResult.{EngineResult}
 use Rattle.engine.specs.declared.EngineAnswer.the-variants.{Refused}
-use Rattle.engine.specs.Meters.{queued, outcomeOf}
+use Rattle.engine.specs.EngineStates.{queued, outcomeOf}
 use Rattle.engine.specs.Results.{answerOf, keyOf, refusal, resultOf, flow, other, flowIn, ofSample, engineOf}
 use Rattle.engine.proofs.Follows.{final-result}
 
@@ -50,7 +50,7 @@ module _ (x : List ℕ) where
 
 -- ---- a run
 
-module _ (s x : List ℕ) (f : FlowSample) (a : Attributes) (e : a ≡ attributesOf x f) (ok : check s ≡ Accepted) (m : Meter)
+module _ (s x : List ℕ) (f : FlowSample) (a : Attributes) (e : a ≡ attributesOf x f) (ok : check s ≡ Accepted) (m : EngineState)
     (w : outcomeOf (ruleOf s) (attribute a) m ≡ after (count s) (ruleOf s) (attribute a) (bound (count s))) where
   pub flow-result : (r : EngineResult) → r .answer ≡ answerOf (m .answer) → r .key ≡ keyOf (queued (ruleOf s) (attribute a) m) → r .rules ≡ m .rules
       → r ≡ ofSample s x (flow f)

@@ -1,3 +1,2 @@
-pub mod Meters
+pub mod EngineStates
 pub mod Results
-pub mod Ends

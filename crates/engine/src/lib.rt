@@ -18,14 +18,15 @@ ghost use Rattle.packet.specs.Attributes.{attribute};
 ghost use Rattle.rules.specs.declared.CheckAnswer.the-variants.{Accepted};
 ghost use Rattle.rules.specs.declared.Action.the-variants.{Return};
 ghost use Rattle.rules.specs.Records.{count, ruleOf};
-ghost use Rattle.rules.specs.Machine.{passes, step, after, Room};
+ghost use Rattle.rules.specs.Machine.{passes, step, after};
+ghost use Rattle.rules.specs.Room.{Room};
 ghost use Rattle.rules.specs.Checks.{check};
 ghost use Rattle.rules.specs.Demand.{bound};
-ghost use Rattle.engine.specs.Meters.{Running, Live, started, goesOf, callsOf, pushesOf, popsOf, comesBackOf, finishesOf, countsOf, actedOf, failedOf, queuesPacket, itemOf, stateOf, outcomeOf, queued};
+ghost use Rattle.engine.specs.EngineStates.{Running, Live, started, goesOf, callsOf, pushesOf, popsOf, comesBackOf, finishesOf, countsOf, actedOf, failedOf, queuesPacket, itemOf, stateOf, outcomeOf, queued};
 ghost use Rattle.engine.specs.Results.{answerNumber, zeroKey, put, keyOf, answerOf, refusal, flow, flowIn, ofSample, engineOf};
 
 // The machine's state: the return stack and the pattern queue hold rule numbers, the newest last. The answer is 0 while it runs.
-struct Meter {
+struct EngineState {
     number: usize,
     testing: bool,
     calls: [u16; 4],
@@ -77,7 +78,7 @@ pub fn answer_number(answer: EngineAnswer) -> u32
 // ---- steps of the state
 
 // Goes to a rule.
-fn goes_to(m: Meter, to: usize, testing: bool) -> Meter
+fn goes_to(m: EngineState, to: usize, testing: bool) -> EngineState
     requires { ⌜ m .rules < 2 ^ 60 ⌝ }
     ensures { λ r. ⌜ r ≡ goesOf m to testing ⌝ }
 {
@@ -89,7 +90,7 @@ fn goes_to(m: Meter, to: usize, testing: bool) -> Meter
 }
 
 // The same, with one call more.
-fn calls_to(m: Meter, to: usize, testing: bool) -> Meter
+fn calls_to(m: EngineState, to: usize, testing: bool) -> EngineState
     requires { ⌜ (m .rules < 2 ^ 60) × (m .depth < 4) × (m .number < 65536) ⌝ }
     ensures { λ r. ⌜ r ≡ callsOf m to testing ⌝ }
 {
@@ -104,7 +105,7 @@ fn calls_to(m: Meter, to: usize, testing: bool) -> Meter
 }
 
 // The same, with this rule's item queued.
-fn pushes_to(m: Meter, to: usize, testing: bool) -> Meter
+fn pushes_to(m: EngineState, to: usize, testing: bool) -> EngineState
     requires { ⌜ (m .rules < 2 ^ 60) × (m .held < 16) × (m .number < 65536) ⌝ }
     ensures { λ r. ⌜ r ≡ pushesOf m to testing ⌝ }
 {
@@ -119,7 +120,7 @@ fn pushes_to(m: Meter, to: usize, testing: bool) -> Meter
 }
 
 // The same, with the newest item dropped.
-fn pops_to(m: Meter, to: usize, testing: bool) -> Meter
+fn pops_to(m: EngineState, to: usize, testing: bool) -> EngineState
     requires { ⌜ (m .rules < 2 ^ 60) × (1 ≤ m .held) ⌝ }
     ensures { λ r. ⌜ r ≡ popsOf m to testing ⌝ }
 {
@@ -138,7 +139,7 @@ fn wide(x: u16) -> usize
 }
 
 // To the rule that lies so far behind the newest call's, untested.
-fn comes_back(m: Meter, parameter: usize) -> Meter
+fn comes_back(m: EngineState, parameter: usize) -> EngineState
     requires { ⌜ (m .rules < 2 ^ 60) × (1 ≤ m .depth) × (m .depth ≤ 4) × (getD (m .calls) (m .depth - 1) 0 + parameter ≤ 255) ⌝ }
     ensures { λ r. ⌜ r ≡ comesBackOf m parameter ⌝ }
 {
@@ -153,7 +154,7 @@ fn comes_back(m: Meter, parameter: usize) -> Meter
 }
 
 // Ends with no item.
-fn finishes(m: Meter, answer: u8) -> Meter
+fn finishes(m: EngineState, answer: u8) -> EngineState
     requires { ⌜ m .rules < 2 ^ 60 ⌝ }
     ensures { λ r. ⌜ r ≡ finishesOf m answer ⌝ }
 {
@@ -165,7 +166,7 @@ fn finishes(m: Meter, answer: u8) -> Meter
 }
 
 // Ends with this rule's item queued.
-fn counts(m: Meter, answer: u8) -> Meter
+fn counts(m: EngineState, answer: u8) -> EngineState
     requires { ⌜ (m .rules < 2 ^ 60) × (m .held < 16) × (m .number < 65536) ⌝ }
     ensures { λ r. ⌜ r ≡ countsOf m answer ⌝ }
 {
@@ -179,7 +180,7 @@ fn counts(m: Meter, answer: u8) -> Meter
 }
 
 // What an action makes of the state.
-fn acts(a: Action, parameter: usize, m: Meter) -> Meter
+fn acts(a: Action, parameter: usize, m: EngineState) -> EngineState
     requires { ⌜ Running m × Room a (m .depth) (m .held) × (a ≡ Return → getD (m .calls) (m .depth - 1) 0 + parameter ≤ 255) ⌝ }
     ensures { λ r. ⌜ r ≡ actedOf a parameter m ⌝ }
 {
@@ -211,7 +212,7 @@ fn rule_passes(r: Rule, v: u32) -> bool
 }
 
 // Whether the test indicator is on and the test fails.
-fn test_fails(m: Meter, r: Rule, v: u32) -> bool
+fn test_fails(m: EngineState, r: Rule, v: u32) -> bool
     ensures { λ b. ⌜ b ≡ (m .testing && not (passes r v)) ⌝ }
 {
     if m.testing {
@@ -221,7 +222,7 @@ fn test_fails(m: Meter, r: Rule, v: u32) -> bool
 }
 
 // A failed test: the next rule, or NoMatch after the last.
-fn next_rule(n: usize, m: Meter) -> Meter
+fn next_rule(n: usize, m: EngineState) -> EngineState
     requires { ⌜ Running m ⌝ }
     ensures { λ r. ⌜ r ≡ failedOf n m ⌝ }
 {
@@ -237,7 +238,7 @@ fn next_rule(n: usize, m: Meter) -> Meter
 }
 
 // One step of the machine.
-fn step_once(s: &[u8], n: usize, a: Attributes, m: Meter) -> Meter
+fn step_once(s: &[u8], n: usize, a: Attributes, m: EngineState) -> EngineState
     requires { ⌜ Live n (ruleOf (now s)) m ⌝ }
     ensures { λ r. ⌜ outcomeOf (ruleOf (now (s .entry))) (attribute a) r ≡ step n (ruleOf (now (s .entry))) (attribute a) (stateOf (ruleOf (now (s .entry))) (attribute a) m) ⌝ }
 {
@@ -251,10 +252,10 @@ fn step_once(s: &[u8], n: usize, a: Attributes, m: Meter) -> Meter
     acts(action, r.parameter, m)
 }
 
-fn start() -> Meter
+fn start() -> EngineState
     ensures { λ m. ⌜ m ≡ started ⌝ }
 {
-    Meter {
+    EngineState {
         number: 1,
         testing: true,
         calls: [0; 4],
@@ -267,7 +268,7 @@ fn start() -> Meter
 }
 
 // The machine to its end, over a rule set that the check accepts.
-fn run_machine(s: &[u8], a: Attributes) -> Meter
+fn run_machine(s: &[u8], a: Attributes) -> EngineState
     requires { ⌜ check (now s) ≡ Accepted ⌝ }
     ensures { λ m. ⌜ outcomeOf (ruleOf (now (s .entry))) (attribute a) m
         ≡ after (count (now (s .entry))) (ruleOf (now (s .entry))) (attribute a) (bound (count (now (s .entry)))) ⌝ }
@@ -349,7 +350,7 @@ fn put_item(k: FlowKey, x: Item) -> FlowKey
 }
 
 // The key of the queued items, the oldest first.
-fn key_of(s: &[u8], a: Attributes, m: Meter) -> FlowKey
+fn key_of(s: &[u8], a: Attributes, m: EngineState) -> FlowKey
     requires { ⌜ m .held ≤ 16 ⌝ }
     ensures { λ k. ⌜ k ≡ keyOf (queued (ruleOf (now (s .entry))) (attribute a) m) ⌝ }
 {

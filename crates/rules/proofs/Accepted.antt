@@ -17,7 +17,7 @@ use Rattle.rules.specs.declared.CheckAnswer.{CheckAnswer}
 use Rattle.rules.specs.declared.CheckAnswer.the-variants.{Accepted, Refused}
 use Rattle.rules.specs.Opcodes.{actions, actionOf}
 use Rattle.rules.specs.Records.{count, recordOf, ruleOf, declaredOf}
-use Rattle.rules.specs.Checks.{formOf, known, badOpcode, aloneOf, escapes, ruleCheck, named, orAnswer, firstOf, badLength, check}
+use Rattle.rules.specs.Checks.{formOf, known, badOpcode, aloneOf, returnsNowhere, ruleCheck, named, orAnswer, firstOf, badLength, check}
 use Rattle.rules.proofs.Tests.{true-false, or-false, fine-either, fine-both}
 use Rattle.rules.proofs.Invariant.{Sound, sound}
 
@@ -100,7 +100,7 @@ unfolding ruleCheck formOf
 rule-sound s i e =
     let u = fine-both (formOf (recordOf s i .mark) (ruleOf s i .attribute) (ruleOf s i .opcode)) _ e in
     let v = fine-both (aloneOf (count s) i (ruleOf s i) (declaredOf s i)) _ (u .1) in
-    let w = fine-either (escapes (count s) (ruleOf s) (declaredOf s) i) _ _ (v .1) in
+    let w = fine-either (returnsNowhere (count s) (ruleOf s) (declaredOf s) (ruleOf s i) (declaredOf s i)) _ _ (v .1) in
     let c = fine-either (not (eqb (recordOf s i .mark) 21109)) _ _ (u .0) in
     let d = fine-either (not (known (ruleOf s i .attribute))) _ _ (c .1) in
     let f = fine-either (badOpcode (ruleOf s i .opcode)) _ _ (d .1) in

@@ -16,8 +16,9 @@ use Rattle.rules.specs.declared.Action.the-variants.{Unknown, Ignore, No
 use Rattle.rules.specs.declared.RuleCheck.the-variants.{Fine}
 use Rattle.rules.specs.Opcodes.{actionOf, isReturn, isGosub, gotoFlag}
 use Rattle.rules.specs.Bits.{masked}
-use Rattle.rules.specs.Machine.{State, Outcome, running, ended, stuck, passes, goes, comesBack, drops, act, fails, step, advance, after, Room}
-use Rattle.rules.specs.Checks.{some, differs, badTarget, aloneOf, badQueue, heldAfter, aims, leaves, landsWrong, escapes, nextDiffers, targetDiffers, returnDiffers, restOf}
+use Rattle.rules.specs.Machine.{State, Outcome, running, ended, stuck, passes, goes, comesBack, drops, act, fails, step, advance, after}
+use Rattle.rules.specs.Room.{Room}
+use Rattle.rules.specs.Checks.{some, differs, badTarget, aloneOf, badQueue, heldAfter, aims, comesBackNowhere, comesBackOtherwise, returnsNowhere, nextDiffers, targetDiffers, returnDiffers, restOf}
 use Rattle.rules.specs.Demand.{bound, EndsAt}
 use Rattle.rules.proofs.Tests.{or-false, and-false, fine-either, some-false, differs-false}
 use Rattle.rules.proofs.Bits.{masked-zero}
@@ -35,6 +36,13 @@ module _ (n : ℕ) (rule : ℕ → Rule) (declared : ℕ → Declared) where
       (differs (declared (rule i .parameter)) (rule i .parameter) (declared i .depth + 1) (declared i .held))
       (differs (declared (rule i .parameter)) (declared i .home) (declared i .depth) (heldAfter a (declared i .held)))
 
+  -- Return i comes back from some Gosub at no rule, or at one that declares otherwise
+  abbrev someNowhere : ℕ → Bool
+  someNowhere i = some (comesBackNowhere n rule declared (declared i .home) (rule i .parameter)) n
+
+  abbrev someOtherwise : ℕ → Bool
+  someOtherwise i = some (comesBackOtherwise n rule declared (declared i .home) (rule i .parameter) (declared i .held)) n
+
   -- what the check has shown of rule i
   pub record Sound (i : ℕ) : Type 0 where
     pub deep : declared i .depth ≤ 4
@@ -42,14 +50,14 @@ module _ (n : ℕ) (rule : ℕ → Rule) (declared : ℕ → Declared) where
     pub first : eqb i 1 && differs (declared i) 0 0 0 ≡ false
     pub homed : isReturn (actOf i) && eqb (declared i .home) 0 ≡ false
     pub ahead : badTarget (actOf i) n i (rule i .parameter) ≡ false
-    pub escaped : isReturn (actOf i) && some (leaves n rule declared i) n ≡ false
+    pub back-there : isReturn (actOf i) && someNowhere i ≡ false
     pub queue : badQueue (actOf i) (declared i .held) ≡ false
-    pub next : nextDiffers n rule declared i ≡ false
+    pub next : nextDiffers n rule declared i (rule i) (declared i) ≡ false
     pub target : gotoDiffers (actOf i) i ≡ false
-    pub back : isReturn (actOf i) && some (landsWrong n rule declared i) n ≡ false
+    pub back : isReturn (actOf i) && someOtherwise i ≡ false
 
-  pub sound : (i : ℕ) → aloneOf n i (rule i) (declared i) ≡ Fine → escapes n rule declared i ≡ false → restOf n rule declared i ≡ Fine → Sound i
-  unfolding aloneOf escapes restOf
+  pub sound : (i : ℕ) → aloneOf n i (rule i) (declared i) ≡ Fine → returnsNowhere n rule declared (rule i) (declared i) ≡ false → restOf n rule declared i (rule i) (declared i) ≡ Fine → Sound i
+  unfolding aloneOf returnsNowhere restOf
   sound i e x y =
       let a = fine-either _ _ _ e in
       let b = fine-either _ _ _ (a .1) in
@@ -58,15 +66,15 @@ module _ (n : ℕ) (rule : ℕ → Rule) (declared : ℕ → Declared) where
       let f = fine-either _ _ _ y in
       let g = fine-either _ _ _ (f .1) in
       let o = or-false _ _ (a .0) in
-      let p = or-false (nextDiffers n rule declared i || targetDiffers n rule declared i) (returnDiffers n rule declared i) (g .0) in
-      let q = or-false (nextDiffers n rule declared i) (targetDiffers n rule declared i) (p .0) in
+      let p = or-false (nextDiffers n rule declared i (rule i) (declared i) || targetDiffers n rule declared (rule i) (declared i)) (returnDiffers n rule declared (rule i) (declared i)) (g .0) in
+      let q = or-false (nextDiffers n rule declared i (rule i) (declared i)) (targetDiffers n rule declared (rule i) (declared i)) (p .0) in
       record {
         deep = ltb-false _ _ (o .0);
         full = ltb-false _ _ (o .1);
         first = b .0;
         homed = c .0;
         ahead = d .0;
-        escaped = x;
+        back-there = x;
         queue = f .0;
         next = q .0;
         target = q .1;
@@ -118,7 +126,7 @@ module _ (n : ℕ) (rule : ℕ → Rule) (declared : ℕ → Declared) where
         omega (arith, v .held)
 
     back : (i : ℕ) (hm : ℕ) (cs : List ℕ) (is : List Item) (k : ℕ) → Frames hm cs → declared i .home ≡ hm → 1 ≤ i → i ≤ n → declared i .held ≡ length is
-        → eqb (declared i .home) 0 ≡ false → eqb (rule i .parameter) 0 ≡ false → some (leaves n rule declared i) n ≡ false → some (landsWrong n rule declared i) n ≡ false
+        → eqb (declared i .home) 0 ≡ false → eqb (rule i .parameter) 0 ≡ false → someNowhere i ≡ false → someOtherwise i ≡ false
         → Good (left n i cs) k (comesBack cs (rule i .parameter) is k)
     back i hm cs is k main e l h q z f₇ x f₉ = absurd (eqb-false _ _ z e)
     back i hm cs is k (sub {g = g} {cs = ds} gl gh gs gd fr) e l h q z f₇ x f₉ =
@@ -131,7 +139,7 @@ module _ (n : ℕ) (rule : ℕ → Rule) (declared : ℕ → Declared) where
 
     act-good : (a : Action) (i : ℕ) (cs : List ℕ) (is : List Item) (k : ℕ) → Inv i cs is → actOf i ≡ a
         → isReturn a && eqb (declared i .home) 0 ≡ false
-        → badTarget a n i (rule i .parameter) ≡ false → isReturn a && some (leaves n rule declared i) n ≡ false → badQueue a (declared i .held) ≡ false → gotoDiffers a i ≡ false → isReturn a && some (landsWrong n rule declared i) n ≡ false
+        → badTarget a n i (rule i .parameter) ≡ false → isReturn a && someNowhere i ≡ false → badQueue a (declared i .held) ≡ false → gotoDiffers a i ≡ false → isReturn a && someOtherwise i ≡ false
         → Good (left n i cs) k (act a (rule i) (at (rule i .attribute)) i cs is k)
     unfolding act
     act-good Ignore i cs is k v e h f₇ x f₈ f₉ r₉ = (omega arith, refl)
@@ -165,7 +173,7 @@ module _ (n : ℕ) (rule : ℕ → Rule) (declared : ℕ → Declared) where
 
     -- an action has what it takes
     room-for : (a : Action) (i : ℕ) (cs : List ℕ) (is : List Item) → Inv i cs is → actOf i ≡ a
-        → isReturn a && eqb (declared i .home) 0 ≡ false → badTarget a n i (rule i .parameter) ≡ false → badQueue a (declared i .held) ≡ false → gotoDiffers a i ≡ false → isReturn a && some (landsWrong n rule declared i) n ≡ false
+        → isReturn a && eqb (declared i .home) 0 ≡ false → badTarget a n i (rule i .parameter) ≡ false → badQueue a (declared i .held) ≡ false → gotoDiffers a i ≡ false → isReturn a && someOtherwise i ≡ false
         → Room a (length cs) (length is)
     room-for Ignore i cs is v e h f₇ f₈ f₉ r₉ = tt
     room-for NoMatch i cs is v e h f₇ f₈ f₉ r₉ = tt
@@ -236,7 +244,7 @@ module _ (n : ℕ) (rule : ℕ → Rule) (declared : ℕ → Declared) where
             (act (actOf (s .number)) (rule (s .number)) (at (rule (s .number) .attribute)) (s .number) (s .calls) (s .items) (s .rules + 1))
         acts =
             let o = ok (s .number) (v .low) (v .high) in
-            act-good (actOf (s .number)) (s .number) (s .calls) (s .items) (s .rules + 1) v refl (o .homed) (o .ahead) (o .escaped) (o .queue) (o .target) (o .back)
+            act-good (actOf (s .number)) (s .number) (s .calls) (s .items) (s .rules + 1) v refl (o .homed) (o .ahead) (o .back-there) (o .queue) (o .target) (o .back)
 
         go : (b c : Bool) → passes (rule (s .number)) (at (rule (s .number) .attribute)) ≡ c
             → Good (left n (s .number) (s .calls)) (s .rules + 1)
@@ -262,7 +270,7 @@ module _ (n : ℕ) (rule : ℕ → Rule) (declared : ℕ → Declared) where
     unfolding act
     back-within i g cs is v e =
         let o = ok i (v .low) (v .high) in
-        act-good Return i (g ∷ cs) is 0 v e (rw e at (o .homed)) (rw e at (o .ahead)) (rw e at (o .escaped)) (rw e at (o .queue)) (rw e at (o .target))
+        act-good Return i (g ∷ cs) is 0 v e (rw e at (o .homed)) (rw e at (o .ahead)) (rw e at (o .back-there)) (rw e at (o .queue)) (rw e at (o .target))
         (rw e at (o .back)) .0 .high
 
     module _ (some-rule : 1 ≤ n) where

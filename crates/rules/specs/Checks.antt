@@ -115,47 +115,44 @@ heldAfter (PopTo t) held = held - 1
 -- ---- 37 and 39, by other rules as they stand
 
 module _ (n : ℕ) (rule : ℕ → Rule) (declared : ℕ → Declared) where
-  abbrev pub actionAt : ℕ → Action
-  actionAt i = actionOf (rule i .opcode)
-
   -- g is a Gosub aimed at a home
   abbrev pub aims : ℕ → ℕ → Bool
-  aims home g = isGosub (actionAt g) && eqb (rule g .parameter) home
+  aims home g = isGosub (actionOf (rule g .opcode)) && eqb (rule g .parameter) home
 
-  -- g is a Gosub aimed at the home of Return i, to which it would come back at no rule
-  abbrev pub leaves : ℕ → ℕ → Bool
-  leaves i g = aims (declared i .home) g && not (leb (g + rule i .parameter) n)
+  -- g is a Gosub aimed at a Return's home, and g plus the Return's parameter is no rule
+  abbrev pub comesBackNowhere : ℕ → ℕ → ℕ → Bool
+  comesBackNowhere home parameter g = aims home g && not (leb (g + parameter) n)
 
-  -- g is such a Gosub, and where Return i comes back declares otherwise than the Gosub's home and depth and the Return's held
-  abbrev pub landsWrong : ℕ → ℕ → Bool
-  landsWrong i g = aims (declared i .home) g && differs (declared (g + rule i .parameter)) (declared g .home) (declared g .depth) (declared i .held)
+  -- g is a Gosub aimed at a Return's home, and the rule come back to declares otherwise than the Gosub's home and depth and the Return's held
+  abbrev pub comesBackOtherwise : ℕ → ℕ → ℕ → ℕ → Bool
+  comesBackOtherwise home parameter held g = aims home g && differs (declared (g + parameter)) (declared g .home) (declared g .depth) held
+
+  -- ---- of a rule r that declares w
 
   -- 37 of a Return, over all Gosubs
-  unfoldable pub escapes : ℕ → Bool
-  escapes i = isReturn (actionAt i) && some (leaves i) n
+  unfoldable pub returnsNowhere : Rule → Declared → Bool
+  returnsNowhere r w = isReturn (actionOf (r .opcode)) && some (comesBackNowhere (w .home) (r .parameter)) n
 
-  -- the next rule, if there is one and mask and value are not both 0, has the same three
-  abbrev pub nextDiffers : ℕ → Bool
-  nextDiffers i =
-      ltb i n && not (eqb (rule i .mask) 0 && eqb (rule i .value) 0)
-      && differs (declared (i + 1)) (declared i .home) (declared i .depth) (declared i .held)
+  -- the next rule (r is rule i), if there is one and mask and value are not both 0, has the same three
+  abbrev pub nextDiffers : ℕ → Rule → Declared → Bool
+  nextDiffers i r w = ltb i n && not (eqb (r .mask) 0 && eqb (r .value) 0) && differs (declared (i + 1)) (w .home) (w .depth) (w .held)
 
   -- the target of a Gosub has itself as home and depth 1 more; another goto target has home and depth, and the items after the action
-  abbrev pub targetDiffers : ℕ → Bool
-  targetDiffers i =
-      gotoFlag (actionAt i)
-      && cond (isGosub (actionAt i))
-      (differs (declared (rule i .parameter)) (rule i .parameter) (declared i .depth + 1) (declared i .held))
-      (differs (declared (rule i .parameter)) (declared i .home) (declared i .depth) (heldAfter (actionAt i) (declared i .held)))
+  abbrev pub targetDiffers : Rule → Declared → Bool
+  targetDiffers r w =
+      gotoFlag (actionOf (r .opcode))
+      && cond (isGosub (actionOf (r .opcode)))
+      (differs (declared (r .parameter)) (r .parameter) (w .depth + 1) (w .held))
+      (differs (declared (r .parameter)) (w .home) (w .depth) (heldAfter (actionOf (r .opcode)) (w .held)))
 
   -- where a Return comes back, over all Gosubs
-  abbrev pub returnDiffers : ℕ → Bool
-  returnDiffers i = isReturn (actionAt i) && some (landsWrong i) n
+  abbrev pub returnDiffers : Rule → Declared → Bool
+  returnDiffers r w = isReturn (actionOf (r .opcode)) && some (comesBackOtherwise (w .home) (r .parameter) (w .held)) n
 
-  unfoldable pub restOf : ℕ → RuleCheck
-  restOf i =
-      orBreaks (badQueue (actionAt i) (declared i .held)) Queue
-      (orBreaks (nextDiffers i || targetDiffers i || returnDiffers i) Successor Fine)
+  unfoldable pub restOf : ℕ → Rule → Declared → RuleCheck
+  restOf i r w =
+      orBreaks (badQueue (actionOf (r .opcode)) (w .held)) Queue
+      (orBreaks (nextDiffers i r w || targetDiffers r w || returnDiffers r w) Successor Fine)
 
 -- ---- the rule set
 
@@ -164,7 +161,8 @@ unfoldable pub ruleCheck : List ℕ → ℕ → RuleCheck
 ruleCheck s i =
     orElse (formOf (recordOf s i .mark) (ruleOf s i .attribute) (ruleOf s i .opcode))
     (orElse (aloneOf (count s) i (ruleOf s i) (declaredOf s i))
-    (orBreaks (escapes (count s) (ruleOf s) (declaredOf s) i) Target (restOf (count s) (ruleOf s) (declaredOf s) i)))
+    (orBreaks (returnsNowhere (count s) (ruleOf s) (declaredOf s) (ruleOf s i) (declaredOf s i)) Target
+    (restOf (count s) (ruleOf s) (declaredOf s) i (ruleOf s i) (declaredOf s i))))
 
 abbrev pub named : RuleCheck → ℕ → CheckAnswer
 named Fine i = Accepted

@@ -1,5 +1,5 @@
 -- The machine of RFC 2722, section 4.4, as document 01 writes it out. It has no limits of its own.
-use Prim.Native.Nat.{ℕ, zero, suc, _+_, _≤_, _<_}
+use Prim.Native.Nat.{ℕ, zero, suc, _+_}
 use mathlib.Core.List.{List, [], _∷_}
 use mathlib.Core.Bool.{Bool, true, false, not, cond, _&&_, _||_}
 use lib.Dec.{ltb, eqb}
@@ -92,17 +92,3 @@ advance n rule at stuck = stuck
 unfoldable pub after : ℕ → (ℕ → Rule) → (ℕ → ℕ) → ℕ → Outcome
 after n rule at zero = running start
 after n rule at (suc k) = advance n rule at (after n rule at k)
-
--- what an action takes, with d calls open and q items queued
-abbrev pub Room : Action → ℕ → ℕ → Type 0
-Room Unknown d q = ⊥
-Room Ignore d q = Unit {0}
-Room NoMatch d q = Unit {0}
-Room Count d q = q < 16
-Room CountPkt d q = q < 16
-Room Return d q = 1 ≤ d
-Room (Gosub t) d q = d < 4
-Room (Goto t) d q = Unit {0}
-Room (PushRule t) d q = q < 16
-Room (PushPkt t) d q = q < 16
-Room (PopTo t) d q = 1 ≤ q

@@ -15,12 +15,12 @@ use Rattle.rules.specs.Opcodes.{actionOf}
 use Rattle.rules.specs.Records.{recordOf}
 use Rattle.rules.specs.Bits.{masked}
 use Rattle.rules.specs.Machine.{passes, act, fails, step, advance, after}
-use Rattle.rules.specs.Checks.{known, formOf, aloneOf, escapes, restOf, ruleCheck, firstOf, check}
+use Rattle.rules.specs.Checks.{known, formOf, aloneOf, returnsNowhere, restOf, ruleCheck, firstOf, check}
 use Rattle.engine.specs.Results.{put, keyOf, flowIn, engineOf}
 use Rattle.ledger.specs.Ledger.{sameSource, updated, firstRow, entered}
 use Rattle.theorems.specs.Cases.{AllHold, cases}
 
 pub cases-hold : AllHold cases
-unfolding readDatagram decode entries encode octetsOfEach octetsOf wordAt itemsAt numbersAt numberAt flatMap started checkedAt appended writeAlone fitEach stored engineOf flowIn keyOf put check firstOf ruleCheck formOf known aloneOf escapes restOf recordOf actionOf after advance step fails act passes masked packetView attribute entered updated sameSource firstRow
+unfolding readDatagram decode entries encode octetsOfEach octetsOf wordAt itemsAt numbersAt numberAt flatMap started checkedAt appended writeAlone fitEach stored engineOf flowIn keyOf put check firstOf ruleCheck formOf known aloneOf returnsNowhere restOf recordOf actionOf after advance step fails act passes masked packetView attribute entered updated sameSource firstRow
 cases-hold =
     ((refl, refl), ((refl, refl), (refl, ((refl, refl), ((refl, refl), ((refl, refl), ((refl, refl), ((refl, refl), ((refl, refl), ((refl, (refl, refl, refl, refl)), (((refl, refl), (refl, refl, refl, refl)), ((refl, (refl, refl, refl, refl)), ((refl, (refl, refl, refl, refl)), ((refl, (refl, refl, refl, refl)), (((refl, refl), (refl, refl, refl, refl)), ((refl, refl, refl, refl), tt))))))))))))))))

@@ -12,7 +12,7 @@ use Rattle.packet.specs.Attributes.{attributesOf, attribute}
 use Rattle.rules.specs.declared.CheckAnswer.the-variants.{Accepted}
 use Rattle.rules.specs.Checks.{check}
 use Rattle.rules.proofs.Demand.{demand-3 as machine-demand}
-use Rattle.engine.specs.Ends.{ends-alike}
+use Rattle.engine.proofs.Ends.{ends-alike}
 use Rattle.engine.specs.Results.{engineOf}
 use Rattle.reader.proofs.datagram.read_head.Met as read-head
 use Rattle.reader.proofs.datagram.start.Met as cursor

@@ -1,25 +1,29 @@
 use borrow.Author.Needs.{needs}
 use Prim.Native.Nat.{_+_, _≤_}
 use native.Mathlib.Omega.{arith}
-use mathlib.Core.Path.{sym, _∙_}
+use mathlib.Core.Path.{_∙_}
 use denote.Ref.{now}
 use Rattle.rules.specs.Records.{count, recordOf}
-use Rattle.check_rules.proofs.Gosubs.{comes-back, otherwise-is, aimed-elsewhere}
+use Rattle.check_rules.proofs.Gosubs.{comes-back, otherwise-is, not-aimed}
 use Rattle.check_rules.proofs.comes_back_otherwise.Statement.{statement}
 use Rattle.check_rules.proofs.comes_back_otherwise.Tie as tie
+
+record-at-requires : tie.Need-record-at-requires
+record-at-requires c κs = search needs
 
 is-aimed-requires : tie.Need-is-aimed-requires
 is-aimed-requires c κs = search needs
 
 add-record-at : tie.Need-add-record-at
 add-record-at c =
-    let entry = c .before .before .before .before .before .before in
+    let at-is-aimed = c .before .before in
+    let at-record-at = at-is-aimed .before .before in
+    let entry = at-record-at .before .before .before .before in
     let a = entry .args in
-    let h : a .g + a .back .rule .parameter ≤ count (now (a .s)) = comes-back (count (now (a .s))) (a .g + a .back .rule .parameter) _ (entry .pre) (sym (c .before .before .is-aimed .ensures) ∙ c .before .if1 .taken) in
+    let h : a .g + a .back .rule .parameter ≤ count (now (a .s))
+    = comes-back (recordOf (now (a .s))) (a .back .declared .home) (a .g) (at-record-at .record-at .result) _ (at-record-at .record-at .ensures) (at-is-aimed .is-aimed .ensures)
+    (count (now (a .s))) (a .back .rule .parameter) (entry .pre) (c .before .if1 .taken) in
     omega arith
-
-record-at-requires : tie.Need-record-at-requires
-record-at-requires c κs = search needs
 
 record-at-requires-2 : tie.Need-record-at-requires-2
 record-at-requires-2 c κs = search needs
@@ -36,26 +40,30 @@ declares-otherwise-requires c κs = search needs
 returns : tie.Need-returns
 returns c =
     let at-record-at2 = c .before .before .before .before .before in
-    let at-record-at = at-record-at2 .before in
-    let at-if1 = at-record-at .before .before in
+    let at-if1 = at-record-at2 .before .before in
     let at-is-aimed = at-if1 .before in
-    let entry = at-is-aimed .before .before .before .before in
+    let at-record-at = at-is-aimed .before .before in
+    let entry = at-record-at .before .before .before .before in
     let a = entry .args in
     c .declares-otherwise .ensures
-    ∙ otherwise-is (recordOf (now (a .s))) (a .g + a .back .rule .parameter) (a .g) (a .back .declared .held) _ (at-record-at .record-at .result)
-    (at-record-at2 .record-at2 .result) (sym (at-is-aimed .is-aimed .ensures) ∙ at-if1 .if1 .taken) (at-record-at .record-at .ensures)
-    (at-record-at2 .record-at2 .ensures)
+    ∙ otherwise-is (recordOf (now (a .s))) (a .back .declared .home) (a .g) (at-record-at .record-at .result) _ (at-record-at .record-at .ensures) (at-is-aimed .is-aimed .ensures)
+    (count (now (a .s))) (a .back .rule .parameter) (a .back .declared .held) (at-record-at2 .record-at2 .result) (at-if1 .if1 .taken) (at-record-at2 .record-at2 .ensures)
 
 returns-2 : tie.Need-returns-2
-returns-2 c = aimed-elsewhere _ _ (sym (c .before .is-aimed .ensures) ∙ c .if1 .left)
+returns-2 c =
+    let at-record-at = c .before .before .before in
+    let entry = at-record-at .before .before .before .before in
+    let a = entry .args in
+    not-aimed (recordOf (now (a .s))) (a .back .declared .home) (a .g) (at-record-at .record-at .result) _ (at-record-at .record-at .ensures) (c .before .is-aimed .ensures)
+    (count (now (a .s))) _ (c .if1 .left)
 
 pub comes-back-otherwise-spec : {M : Type 1} → statement M
 comes-back-otherwise-spec =
     tie.close
     (tie.spec
+    record-at-requires
     is-aimed-requires
     add-record-at
-    record-at-requires
     record-at-requires-2
     cast-declares-otherwise
     cast-declares-otherwise-2

@@ -1,8 +1,7 @@
-use Prim.Native.Nat.{ℕ, _+_, _-_, _≤_}
+use Prim.Native.Nat.{_+_, _-_, _≤_}
 use native.Mathlib.Omega.{arith}
 use mathlib.Core.Path.{_≡_, refl, sym, _∙_, ap}
 use mathlib.Core.Logic.{⊎-elim}
-use mathlib.Core.List.{List}
 use mathlib.Core.Bool.{false}
 use denote.Ref.{now}
 use borrow.Author.Needs.{needs}
@@ -10,23 +9,22 @@ use Rattle.rules.proofs.Tests.{some-false}
 use Rattle.rules.specs.declared.RuleCheck.the-variants.{Fine}
 use Rattle.rules.specs.declared.CheckAnswer.the-variants.{Accepted}
 use Rattle.rules.specs.Records.{count, ruleOf, declaredOf}
-use Rattle.rules.specs.Checks.{some, escapes, returnDiffers, named, firstOf, ruleCheck}
+use Rattle.rules.specs.Checks.{some, comesBackNowhere, named, firstOf, ruleCheck}
 use Rattle.rules.specs.Opcodes.{isReturn}
-use Rattle.check_rules.specs.ByRecord.{comesBackNowhere, comesBackOtherwise}
 use Rattle.check_rules.proofs.Gosubs.{some-more, some-here}
-use Rattle.check_rules.proofs.RuleChecks.{breaks-alone, no-return, goes-on, stays, agrees, breaks-target, breaks-successor}
+use Rattle.check_rules.proofs.RuleChecks.{nowhereFrom, otherwiseFrom, Kept, no-return, comes-back, breaks-alone, goes-on, breaks-target, breaks-successor}
 use Rattle.check_rules.proofs.Scan.{one-more, first-broken, none-broken}
 use Rattle.check_rules.proofs.first_refusal.Statement.{statement}
 use Rattle.check_rules.proofs.first_refusal.Tie as tie
 
 abbrev Inv-loop : tie.InvT-loop
-Inv-loop s n i own g₀ g = (g ≤ n) × (some (comesBackNowhere s n own) g ≡ false)
+Inv-loop s n i own g₀ g = (g ≤ n) × (some (comesBackNowhere n (ruleOf s) (declaredOf s) (own .declared .home) (own .rule .parameter)) g ≡ false)
 
 abbrev μ-loop : tie.MeasureT-loop
 μ-loop s n i own g₀ g = n - g
 
 abbrev Inv-loop2 : tie.InvT-loop2
-Inv-loop2 s n i own g h₀ h = (h ≤ n) × (some (comesBackOtherwise s own) h ≡ false)
+Inv-loop2 s n i own g h₀ h = (h ≤ n) × (some (otherwiseFrom s own) h ≡ false)
 
 abbrev μ-loop2 : tie.MeasureT-loop2
 μ-loop2 s n i own g h₀ h = n - h
@@ -84,7 +82,7 @@ loop-again c =
     let at-record-at = at-loop .before .before .before .before .before .before .before .before in
     let entry = at-record-at .before .before .before .before in (
       omega arith,
-      some-more (comesBackNowhere (now (entry .args .s)) (count (now (entry .args .s))) (at-record-at .record-at .result)) (at-loop .loop .g)
+      some-more (nowhereFrom (now (entry .args .s)) (at-record-at .record-at .result)) (at-loop .loop .g)
           (at-loop .loop .inv .1) (sym (c .before .comes-back-nowhere .ensures) ∙ c .if2 .left),
     )
 
@@ -103,7 +101,7 @@ comes-back-otherwise-requires c κs =
     let s = now (entry .args .s) in
     let l = at-loop .loop in
     let e : l .g ≡ count s = omega (arith, l .inv .0, c .before .before .loop-test .left) in
-    some-false (comesBackNowhere s (count s) (at-record-at .record-at .result)) (count s) (rw e at (l .inv .1)) (c .before .loop2 .h + 1) (omega arith) (omega arith)
+    some-false (nowhereFrom s (at-record-at .record-at .result)) (count s) (rw e at (l .inv .1)) (c .before .loop2 .h + 1) (omega arith) (omega arith)
 
 loop2-less : tie.Need-loop2-less Inv-loop μ-loop Inv-loop2 μ-loop2 Inv-rules μ-rules
 loop2-less c = omega arith
@@ -114,30 +112,23 @@ loop2-again c =
     let at-record-at = at-loop2 .before .before .before .before .before .before .before .before .before .before in
     let entry = at-record-at .before .before .before .before in (
       omega arith,
-      some-more (comesBackOtherwise (now (entry .args .s)) (at-record-at .record-at .result)) (at-loop2 .loop2 .h) (at-loop2 .loop2 .inv .1)
+      some-more (otherwiseFrom (now (entry .args .s)) (at-record-at .record-at .result)) (at-loop2 .loop2 .h) (at-loop2 .loop2 .inv .1)
           (sym (c .before .comes-back-otherwise .ensures) ∙ c .if3 .left),
     )
 
--- behind the inner loops: each Gosub of a Return comes back at a rule, and at one that declares the same
-abbrev Kept : List ℕ → ℕ → Type 0
-Kept s i = (escapes (count s) (ruleOf s) (declaredOf s) i ≡ false) × (returnDiffers (count s) (ruleOf s) (declaredOf s) i ≡ false)
-
+-- behind the inner loops
 kept : (c : tie.Joined1 Inv-loop μ-loop Inv-loop2 μ-loop2 Inv-rules μ-rules)
-    → Kept (now (c .before .before .before .before .before .before .before .before .before .before .before .args .s))
-    (c .before .before .before .before .before .before .before .before .before .rules .i + 1)
+    → Kept (now (c .before .before .before .before .before .before .before .before .before .before .before .args .s)) (c .before .before .before .before .before .before .before .record-at .result)
 kept c =
     let at-record-at = c .before .before .before .before .before .before .before in
-    let at-rules = at-record-at .before .before in
-    let entry = at-rules .before .before in
-    let s = now (entry .args .s) in
-    let i = at-rules .rules .i + 1 in
-    let own = at-record-at .record-at in
+    let s = now (at-record-at .before .before .before .before .args .s) in
+    let own = at-record-at .record-at .result in
     ⊎-elim
     (λ w.
     let e : w .1 .g ≡ count s = omega (arith, w .1 .inv .0, w .2 .left) in
     let f : w .3 .h ≡ count s = omega (arith, w .3 .inv .0, w .4 .left) in
-    (stays s i (own .result) (own .ensures) (rw e at (w .1 .inv .1)), agrees s i (own .result) (own .ensures) (rw f at (w .3 .inv .1))))
-    (λ w. no-return s i (own .result) (own .ensures) (ap isReturn (sym (c .before .before .action-of .ensures)) ∙ sym (c .before .is-return .ensures) ∙ w .left))
+    comes-back s own (rw e at (w .1 .inv .1)) (rw f at (w .3 .inv .1)))
+    (λ w. no-return s own (ap isReturn (sym (c .before .before .action-of .ensures)) ∙ sym (c .before .is-return .ensures) ∙ w .left))
     (c .if1 .came)
 
 check-rest-requires :
@@ -163,7 +154,7 @@ rules-again c =
       omega arith,
       c .enum-told3 .given .1,
       one-more (ruleCheck s) i (at-rules .rules .inv .2)
-          (goes-on s (i + 1) (at-record-at .record-at .result) (at-record-at .record-at .ensures)
+          (goes-on s (at-record-at .record-at .result) (i + 1) (at-record-at .record-at .ensures)
           (sym (at-check-record .check-record .ensures) ∙ at-enum-told .enum-told .given .1) (kept (at-3) .0)
           ∙ sym (c .before .before .check-rest .ensures)
           ∙ c .enum-told3 .given .1),
@@ -186,21 +177,21 @@ out c =
     ⊎-elim
     (λ w. none-broken (ruleCheck s) i (count s) _ _ (inv .2) (omega arith) (w .2 ∙ inv .1))
     (⊎-elim
-    (λ w. first-broken (ruleCheck s) i (count s) _ _ _ (inv .2) (omega arith) (breaks-alone s (i + 1) (w .1 .result) (w .1 .ensures) _ (sym (w .3 .ensures) ∙ w .5 .given .1)) (w .6) (w .7 ∙ w .5 .given .1))
+    (λ w. first-broken (ruleCheck s) i (count s) _ _ _ (inv .2) (omega arith) (breaks-alone s (w .1 .result) (i + 1) (w .1 .ensures) _ (sym (w .3 .ensures) ∙ w .5 .given .1)) (w .6) (w .7 ∙ w .5 .given .1))
     (⊎-elim
     (λ w. first-broken (ruleCheck s) i (count s) _ _ _ (inv .2) (omega arith)
-    (breaks-target s (i + 1) (w .1 .result) (w .1 .ensures) (sym (w .3 .ensures) ∙ w .5 .given .1) (ap isReturn (sym (w .6 .ensures)) ∙ sym (w .7 .ensures) ∙ w .8 .taken)
-    (some-here (comesBackNowhere s (count s) (w .1 .result)) (count s) (w .9 .g + 1) (omega arith) (omega arith) (sym (w .11 .ensures) ∙ w .12 .taken))) (w .13) (w .14))
+    (breaks-target s (w .1 .result) (i + 1) (w .1 .ensures) (sym (w .3 .ensures) ∙ w .5 .given .1) (ap isReturn (sym (w .6 .ensures)) ∙ sym (w .7 .ensures) ∙ w .8 .taken)
+    (some-here (nowhereFrom s (w .1 .result)) (count s) (w .9 .g + 1) (omega arith) (omega arith) (sym (w .11 .ensures) ∙ w .12 .taken))) (w .13) (w .14))
     (⊎-elim
     (λ w.
     let e : w .9 .g ≡ count s = omega (arith, w .9 .inv .0, w .10 .left) in
     first-broken (ruleCheck s) i (count s) _ _ _ (inv .2) (omega arith)
-    (breaks-successor s (i + 1) (w .1 .result) (w .1 .ensures) (sym (w .3 .ensures) ∙ w .5 .given .1) (ap isReturn (sym (w .6 .ensures)) ∙ sym (w .7 .ensures) ∙ w .8 .taken) (rw e at (w .9 .inv .1))
-    (some-here (comesBackOtherwise s (w .1 .result)) (count s) (w .11 .h + 1) (omega arith) (omega arith) (sym (w .13 .ensures) ∙ w .14 .taken))) (w .15) (w .16))
+    (breaks-successor s (w .1 .result) (i + 1) (w .1 .ensures) (sym (w .3 .ensures) ∙ w .5 .given .1) (ap isReturn (sym (w .6 .ensures)) ∙ sym (w .7 .ensures) ∙ w .8 .taken) (rw e at (w .9 .inv .1))
+    (some-here (otherwiseFrom s (w .1 .result)) (count s) (w .11 .h + 1) (omega arith) (omega arith) (sym (w .13 .ensures) ∙ w .14 .taken))) (w .15) (w .16))
     (λ w.
     let j : tie.Joined1 Inv-loop μ-loop Inv-loop2 μ-loop2 Inv-rules μ-rules = record { before = record { before = record { before = record { before = record { before = record { before = record { before = record { before = record { before = c .before; rules-test = w .0 }; record-at = w .1 }; rule = w .2 }; check-record = w .3 }; match = w .4 }; enum-told = w .5 }; action-of = w .6 }; is-return = w .7 }; if1 = w .8 } in
     first-broken (ruleCheck s) i (count s) _ _ _ (inv .2) (omega arith)
-    (goes-on s (i + 1) (w .1 .result) (w .1 .ensures) (sym (w .3 .ensures) ∙ w .5 .given .1) (kept j .0) ∙ sym (w .9 .ensures) ∙ w .11 .given .1) (w .12) (w .13 ∙ w .11 .given .1)))))
+    (goes-on s (w .1 .result) (i + 1) (w .1 .ensures) (sym (w .3 .ensures) ∙ w .5 .given .1) (kept j .0) ∙ sym (w .9 .ensures) ∙ w .11 .given .1) (w .12) (w .13 ∙ w .11 .given .1)))))
     (c .rules-test .came)
 
 returns : tie.Need-returns Inv-loop μ-loop Inv-loop2 μ-loop2 Inv-rules μ-rules

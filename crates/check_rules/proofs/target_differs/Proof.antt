@@ -1,25 +1,16 @@
 use borrow.Author.Needs.{needs}
-use mathlib.Core.Path.{sym, _∙_, ap}
+use mathlib.Core.Path.{sym, _∙_}
 use denote.Ref.{now}
-use Rattle.rules.specs.declared.Action.{Action}
-use Rattle.rules.specs.Opcodes.{gotoFlag, isGosub}
 use Rattle.rules.specs.Records.{count, recordOf}
-use Rattle.rules.specs.Checks.{differs, heldAfter}
-use Rattle.check_rules.proofs.Successors.{held-fine, no-target, gosub-target, other-target}
+use Rattle.check_rules.proofs.Successors.{no-target, gosub-target, other-target}
 use Rattle.check_rules.proofs.target_differs.Statement.{statement}
 use Rattle.check_rules.proofs.target_differs.Tie as tie
-
-record-at-requires : tie.Need-record-at-requires
-record-at-requires c κs = search needs
-
-action-of-requires : tie.Need-action-of-requires
-action-of-requires c κs = search needs
 
 has-goto-flag-requires : tie.Need-has-goto-flag-requires
 has-goto-flag-requires c κs = search needs
 
-record-at-requires-2 : tie.Need-record-at-requires-2
-record-at-requires-2 c κs = search needs
+record-at-requires : tie.Need-record-at-requires
+record-at-requires c κs = search needs
 
 is-gosub-requires : tie.Need-is-gosub-requires
 is-gosub-requires c κs = search needs
@@ -40,29 +31,21 @@ returns : tie.Need-returns
 returns c =
     let at-if2 = c .before .before .before in
     let at-is-gosub = at-if2 .before in
-    let at-record-at2 = at-is-gosub .before .before in
-    let at-if1 = at-record-at2 .before in
+    let at-record-at = at-is-gosub .before .before in
+    let at-if1 = at-record-at .before in
     let at-has-goto-flag = at-if1 .before in
-    let at-action-of = at-has-goto-flag .before in
-    let at-record-at = at-action-of .before .before .before in
-    let entry = at-record-at .before .before in
+    let entry = at-has-goto-flag .before .before .before .before in
     let a = entry .args in
     c .declares-otherwise .ensures
-    ∙ gosub-target (recordOf (now (a .s))) (count (now (a .s))) (a .i) (at-record-at .record-at .result) (at-record-at2 .record-at2 .result)
-    (at-record-at .record-at .ensures) (at-record-at2 .record-at2 .ensures)
-    (ap gotoFlag (sym (at-action-of .action-of .ensures)) ∙ sym (at-has-goto-flag .has-goto-flag .ensures) ∙ at-if1 .if1 .taken)
-    (ap isGosub (sym (at-action-of .action-of .ensures)) ∙ sym (at-is-gosub .is-gosub .ensures) ∙ at-if2 .if2 .taken)
+    ∙ gosub-target (recordOf (now (a .s))) (count (now (a .s))) (a .own) (a .action) (entry .pre .0)
+    (at-record-at .record-at .result) (at-record-at .record-at .ensures) (sym (at-has-goto-flag .has-goto-flag .ensures) ∙ at-if1 .if1 .taken)
+    (sym (at-is-gosub .is-gosub .ensures) ∙ at-if2 .if2 .taken)
 
 cast-declares-otherwise-3 : tie.Need-cast-declares-otherwise-3
 cast-declares-otherwise-3 c = search needs
 
 held-after-requires : tie.Need-held-after-requires
-held-after-requires c κs =
-    let at-action-of = c .before .before .before .before .before .before .before in
-    let at-record-at = at-action-of .before .before .before in
-    let entry = at-record-at .before .before in
-    held-fine (recordOf (now (entry .args .s))) (entry .args .i) (at-record-at .record-at .result) _ (at-record-at .record-at .ensures)
-    (at-action-of .action-of .ensures) (entry .pre)
+held-after-requires c κs = c .before .before .before .before .before .before .before .before .before .before .pre .1
 
 declares-otherwise-requires-2 : tie.Need-declares-otherwise-requires-2
 declares-otherwise-requires-2 c κs = search needs
@@ -71,39 +54,29 @@ returns-2 : tie.Need-returns-2
 returns-2 c =
     let at-if2 = c .before .before .before in
     let at-is-gosub = at-if2 .before in
-    let at-record-at2 = at-is-gosub .before .before in
-    let at-if1 = at-record-at2 .before in
+    let at-record-at = at-is-gosub .before .before in
+    let at-if1 = at-record-at .before in
     let at-has-goto-flag = at-if1 .before in
-    let at-action-of = at-has-goto-flag .before in
-    let at-record-at = at-action-of .before .before .before in
-    let entry = at-record-at .before .before in
+    let entry = at-has-goto-flag .before .before .before .before in
     let a = entry .args in
     c .declares-otherwise2 .ensures
-    ∙ ap
-    (differs (at-record-at2 .record-at2 .result .declared) (at-record-at .record-at .result .declared .home)
-    (at-record-at .record-at .result .declared .depth))
-    (c .before .held-after .ensures ∙ ap (λ (x : Action). heldAfter x (at-record-at .record-at .result .declared .held)) (at-action-of .action-of .ensures))
-    ∙ other-target (recordOf (now (a .s))) (count (now (a .s))) (a .i) (at-record-at .record-at .result) (at-record-at2 .record-at2 .result)
-    (at-record-at .record-at .ensures) (at-record-at2 .record-at2 .ensures)
-    (ap gotoFlag (sym (at-action-of .action-of .ensures)) ∙ sym (at-has-goto-flag .has-goto-flag .ensures) ∙ at-if1 .if1 .taken)
-    (ap isGosub (sym (at-action-of .action-of .ensures)) ∙ sym (at-is-gosub .is-gosub .ensures) ∙ at-if2 .if2 .left)
+    ∙ other-target (recordOf (now (a .s))) (count (now (a .s))) (a .own) (a .action) (entry .pre .0)
+    (at-record-at .record-at .result) _ (at-record-at .record-at .ensures) (sym (at-has-goto-flag .has-goto-flag .ensures) ∙ at-if1 .if1 .taken)
+    (sym (at-is-gosub .is-gosub .ensures) ∙ at-if2 .if2 .left) (c .before .held-after .ensures)
 
 returns-3 : tie.Need-returns-3
 returns-3 c =
-    let at-record-at = c .before .before .before .before .before in
-    let entry = at-record-at .before .before in
+    let entry = c .before .before .before .before .before in
     let a = entry .args in
-    no-target (recordOf (now (a .s))) (count (now (a .s))) (a .i) (at-record-at .record-at .result) (at-record-at .record-at .ensures)
-    (ap gotoFlag (sym (c .before .before .action-of .ensures)) ∙ sym (c .before .has-goto-flag .ensures) ∙ c .if1 .left)
+    no-target (recordOf (now (a .s))) (count (now (a .s))) (a .own) (a .action) (entry .pre .0)
+    (sym (c .before .has-goto-flag .ensures) ∙ c .if1 .left)
 
 pub target-differs-spec : {M : Type 1} → statement M
 target-differs-spec =
     tie.close
     (tie.spec
-    record-at-requires
-    action-of-requires
     has-goto-flag-requires
-    record-at-requires-2
+    record-at-requires
     is-gosub-requires
     cast-declares-otherwise
     add-declares-otherwise

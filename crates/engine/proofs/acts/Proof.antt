@@ -1,5 +1,5 @@
 use native.Mathlib.Omega.{arith}
-use Rattle.engine.specs.Meters.{actedOf}
+use Rattle.engine.specs.EngineStates.{actedOf}
 use borrow.Author.Needs.{needs}
 use Rattle.engine.proofs.acts.Statement.{statement}
 use Rattle.engine.proofs.acts.Tie as tie

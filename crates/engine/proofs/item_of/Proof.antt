@@ -4,7 +4,7 @@ use mathlib.Core.Path.{sym, _∙_, ap}
 use Rattle.rules.specs.declared.RuleRecord.{RuleRecord}
 use Rattle.rules.specs.Records.{ruleOf}
 use Rattle.packet.specs.Attributes.{attribute}
-use Rattle.engine.specs.Meters.{queuesPacket}
+use Rattle.engine.specs.EngineStates.{queuesPacket}
 use borrow.Author.Needs.{needs}
 use Rattle.engine.proofs.item_of.Statement.{statement}
 use Rattle.engine.proofs.item_of.Tie as tie

@@ -6,7 +6,7 @@ use denote.Ref.{now}
 use mathlib.Core.Path.{_≡_, sym, _∙_, ap}
 use Rattle.rules.specs.Records.{ruleOf}
 use Rattle.packet.specs.Attributes.{attribute}
-use Rattle.engine.specs.Meters.{stackOf, itemOf}
+use Rattle.engine.specs.EngineStates.{stackOf, itemOf}
 use Rattle.engine.specs.Results.{put, keyOf}
 use Rattle.engine.specs.declared.FlowKey.{FlowKey}
 use borrow.Author.Needs.{needs}

@@ -1,4 +1,4 @@
-use Rattle.engine.proofs.Meters.{goes-next, ends-last}
+use Rattle.engine.proofs.EngineStates.{goes-next, ends-last}
 use mathlib.Core.Path.{_∙_}
 use borrow.Author.Needs.{needs}
 use Rattle.engine.proofs.next_rule.Statement.{statement}

@@ -1,4 +1,4 @@
-use Rattle.engine.proofs.Meters.{null-test, mask-test}
+use Rattle.engine.proofs.EngineStates.{null-test, mask-test}
 use borrow.Author.Needs.{needs}
 use Rattle.engine.proofs.rule_passes.Statement.{statement}
 use Rattle.engine.proofs.rule_passes.Tie as tie

@@ -8,7 +8,7 @@ use Rattle.rules.specs.Records.{count, ruleOf}
 use Rattle.rules.specs.Machine.{running, start, after}
 use Rattle.rules.specs.Demand.{bound}
 use Rattle.packet.specs.Attributes.{attribute}
-use Rattle.engine.specs.Meters.{outcomeOf}
+use Rattle.engine.specs.EngineStates.{outcomeOf}
 use borrow.Author.Needs.{needs}
 use Rattle.engine.proofs.run_machine.Statement.{statement}
 use Rattle.engine.proofs.run_machine.Tie as tie

@@ -1,10 +1,10 @@
-use Rattle.engine.proofs.Meters.{step-failed, step-acted}
+use Rattle.engine.proofs.EngineStates.{step-failed, step-acted}
 use denote.Ref.{now}
 use mathlib.Core.Path.{sym, _∙_, ap}
 use Rattle.rules.specs.declared.RuleRecord.{RuleRecord}
 use Rattle.rules.specs.Records.{ruleOf}
 use Rattle.packet.specs.Attributes.{attribute}
-use Rattle.engine.specs.Meters.{outcomeOf}
+use Rattle.engine.specs.EngineStates.{outcomeOf}
 use borrow.Author.Needs.{needs}
 use Rattle.engine.proofs.step_once.Statement.{statement}
 use Rattle.engine.proofs.step_once.Tie as tie

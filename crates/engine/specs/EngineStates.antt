@@ -10,8 +10,9 @@ use Rattle.rules.specs.declared.Rule.{Rule}
 use Rattle.rules.specs.declared.Action.{Action}
 use Rattle.rules.specs.declared.Action.the-variants.{Unknown, Ignore, NoMatch, Count, CountPkt, Return, Gosub, Goto, PushRule, PushPkt, PopTo}
 use Rattle.rules.specs.Opcodes.{actionOf}
-use Rattle.rules.specs.Machine.{State, Outcome, running, ended, ruleItem, packetItem, Room}
-use Rattle.engine.specs.declared.Meter.{Meter}
+use Rattle.rules.specs.Machine.{State, Outcome, running, ended, ruleItem, packetItem}
+use Rattle.rules.specs.Room.{Room}
+use Rattle.engine.specs.declared.EngineState.{EngineState}
 
 -- the first d numbers, the last first
 abbrev pub stackOf : List ℕ → ℕ → List ℕ
@@ -36,10 +37,10 @@ queuesPacket (PopTo t) = false
 unfoldable pub itemOf : (ℕ → Rule) → (ℕ → ℕ) → ℕ → Item
 itemOf rule at i = cond (queuesPacket (actionOf (rule i .opcode))) (packetItem (rule i) (at (rule i .attribute))) (ruleItem (rule i))
 
-abbrev pub queued : (ℕ → Rule) → (ℕ → ℕ) → Meter → List Item
+abbrev pub queued : (ℕ → Rule) → (ℕ → ℕ) → EngineState → List Item
 queued rule at m = map (itemOf rule at) (stackOf (m .queue) (m .held))
 
-abbrev pub stateOf : (ℕ → Rule) → (ℕ → ℕ) → Meter → State
+abbrev pub stateOf : (ℕ → Rule) → (ℕ → ℕ) → EngineState → State
 stateOf rule at m =
     record { number = m .number; testing = m .testing; calls = stackOf (m .calls) (m .depth); items = queued rule at m; rules = m .rules }
 
@@ -48,16 +49,16 @@ abbrev pub told : ℕ → State → Outcome
 told zero s = running s
 told (suc a) s = ended (suc a) (s .items) (s .rules)
 
-abbrev pub outcomeOf : (ℕ → Rule) → (ℕ → ℕ) → Meter → Outcome
+abbrev pub outcomeOf : (ℕ → Rule) → (ℕ → ℕ) → EngineState → Outcome
 outcomeOf rule at m = told (m .answer) (stateOf rule at m)
 
-abbrev pub started : Meter
+abbrev pub started : EngineState
 started =
     record { number = 1; testing = true; calls = replicate 4 0; depth = 0; queue = replicate 16 0; held = 0; rules = 0; answer = 0 }
 
 -- ---- the steps of the state, as the code makes them
 
-abbrev pub goesOf : Meter → ℕ → Bool → Meter
+abbrev pub goesOf : EngineState → ℕ → Bool → EngineState
 goesOf m to t =
     record {
       number = to;
@@ -70,7 +71,7 @@ goesOf m to t =
       answer = m .answer;
     }
 
-abbrev pub callsOf : Meter → ℕ → Bool → Meter
+abbrev pub callsOf : EngineState → ℕ → Bool → EngineState
 callsOf m to t =
     record {
       number = to;
@@ -83,7 +84,7 @@ callsOf m to t =
       answer = m .answer;
     }
 
-abbrev pub pushesOf : Meter → ℕ → Bool → Meter
+abbrev pub pushesOf : EngineState → ℕ → Bool → EngineState
 pushesOf m to t =
     record {
       number = to;
@@ -96,7 +97,7 @@ pushesOf m to t =
       answer = m .answer;
     }
 
-abbrev pub popsOf : Meter → ℕ → Bool → Meter
+abbrev pub popsOf : EngineState → ℕ → Bool → EngineState
 popsOf m to t =
     record {
       number = to;
@@ -109,7 +110,7 @@ popsOf m to t =
       answer = m .answer;
     }
 
-abbrev pub comesBackOf : Meter → ℕ → Meter
+abbrev pub comesBackOf : EngineState → ℕ → EngineState
 comesBackOf m p =
     record {
       number = getD (m .calls) (m .depth - 1) 0 + p;
@@ -122,7 +123,7 @@ comesBackOf m p =
       answer = m .answer;
     }
 
-abbrev pub finishesOf : Meter → ℕ → Meter
+abbrev pub finishesOf : EngineState → ℕ → EngineState
 finishesOf m a =
     record {
       number = m .number;
@@ -135,7 +136,7 @@ finishesOf m a =
       answer = a;
     }
 
-abbrev pub countsOf : Meter → ℕ → Meter
+abbrev pub countsOf : EngineState → ℕ → EngineState
 countsOf m a =
     record {
       number = m .number;
@@ -149,7 +150,7 @@ countsOf m a =
     }
 
 -- what an action with a parameter makes of the state
-unfoldable pub actedOf : Action → ℕ → Meter → Meter
+unfoldable pub actedOf : Action → ℕ → EngineState → EngineState
 actedOf Unknown p m = m
 actedOf Ignore p m = finishesOf m 1
 actedOf NoMatch p m = finishesOf m 2
@@ -163,12 +164,12 @@ actedOf (PushPkt t) p m = pushesOf m p t
 actedOf (PopTo t) p m = popsOf m p t
 
 -- what a failed test makes of it, of n rules
-unfoldable pub failedOf : ℕ → Meter → Meter
+unfoldable pub failedOf : ℕ → EngineState → EngineState
 failedOf n m = cond (ltb (m .number) n) (goesOf m (m .number + 1) true) (finishesOf m 2)
 
 -- ---- what holds while it runs
 
-pub record Running (m : Meter) : Type 0 where
+pub record Running (m : EngineState) : Type 0 where
   pub number : m .number ≤ 255
   pub room-calls : length (m .calls) ≡ 4
   pub room-queue : length (m .queue) ≡ 16
@@ -178,7 +179,7 @@ pub record Running (m : Meter) : Type 0 where
   pub answer : m .answer ≡ 0
 
 -- of n rules, what the action of the present one takes is there
-pub record Live (n : ℕ) (rule : ℕ → Rule) (m : Meter) : Type 0 where
+pub record Live (n : ℕ) (rule : ℕ → Rule) (m : EngineState) : Type 0 where
   pub low : 1 ≤ m .number
   pub high : m .number ≤ n
   pub running-so : Running m

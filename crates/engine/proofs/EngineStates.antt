@@ -14,10 +14,11 @@ use Rattle.rules.specs.declared.Rule.{Rule}
 use Rattle.rules.specs.declared.Action.{Action}
 use Rattle.rules.specs.declared.Action.the-variants.{Unknown, Ignore, NoMatch, Count, CountPkt, Return, Gosub, Goto, PushRule, PushPkt, PopTo}
 use Rattle.rules.specs.Opcodes.{actionOf}
-use Rattle.rules.specs.Machine.{Outcome, ended, passes, ruleItem, packetItem, goes, act, fails, step, Room}
+use Rattle.rules.specs.Machine.{Outcome, ended, passes, ruleItem, packetItem, goes, act, fails, step}
+use Rattle.rules.specs.Room.{Room}
 use Rattle.rules.proofs.Bits.{masked-is}
-use Rattle.engine.specs.declared.Meter.{Meter}
-use Rattle.engine.specs.Meters.{stackOf, queuesPacket, itemOf, queued, stateOf, outcomeOf, goesOf, finishesOf, actedOf, failedOf, Running, Live}
+use Rattle.engine.specs.declared.EngineState.{EngineState}
+use Rattle.engine.specs.EngineStates.{stackOf, queuesPacket, itemOf, queued, stateOf, outcomeOf, goesOf, finishesOf, actedOf, failedOf, Running, Live}
 
 -- ---- stacks of numbers
 
@@ -51,7 +52,7 @@ packet-item r v h = rw (masked-is 32 v (r .mask) h) refl
 
 -- ---- actions
 
-module _ (rule : ℕ → Rule) (at : ℕ → ℕ) (m : Meter) (h : Running m) where
+module _ (rule : ℕ → Rule) (at : ℕ → ℕ) (m : EngineState) (h : Running m) where
   abbrev r : Rule
   r = rule (m .number)
 
@@ -96,7 +97,7 @@ module _ (rule : ℕ → Rule) (at : ℕ → ℕ) (m : Meter) (h : Running m) wh
 
 -- ---- a step
 
-module _ (n : ℕ) (rule : ℕ → Rule) (at : ℕ → ℕ) (m : Meter) (l : Live n rule m) where
+module _ (n : ℕ) (rule : ℕ → Rule) (at : ℕ → ℕ) (m : EngineState) (l : Live n rule m) where
   abbrev tests : Bool
   tests = m .testing && not (passes (rule (m .number)) (at (rule (m .number) .attribute)))
 
@@ -112,7 +113,7 @@ module _ (n : ℕ) (rule : ℕ → Rule) (at : ℕ → ℕ) (m : Meter) (l : Liv
       (acted rule at m (l .running-so) (actionOf (rule (m .number) .opcode)) refl (l .room))
 
 -- a failed test on the way to the next rule
-module _ (n : ℕ) (m : Meter) where
+module _ (n : ℕ) (m : EngineState) where
   pub goes-next : m .number < n → goesOf m (m .number + 1) true ≡ failedOf n m
   unfolding failedOf
   goes-next h = rw (lt-ltb (m .number) n h)

@@ -1,5 +1,5 @@
 -- The engine's definition looks at the machine after as many steps as demand 3 allows. Of an accepted rule set the machine has ended there, and every
--- number of steps after which it has ended gives the same end.
+-- number of steps after which it has ended gives the same end. Assumes nothing.
 use Prim.Native.Nat.{ℕ}
 use mathlib.Core.Path.{_≡_, _∙_}
 use mathlib.Core.List.{List}
