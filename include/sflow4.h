@@ -251,13 +251,92 @@ uint32_t sflow4_start(uint8_t *buffer, size_t buffer_length, size_t limit, uint3
                       size_t out_length);
 
 /* Puts one sample, given as octets, behind the datagram that is the buffer's first length octets, and adds 1 to the
- * datagram's count of samples.
+ * datagram's count of samples. For a sample whose octets are there already, as one that sflow4_sample found; a sample of
+ * which the values are at hand needs no octets of its own: sflow4_append_header, sflow4_append_ipv4, sflow4_append_ipv6 and
+ * sflow4_append_counters write it where it belongs.
  * Answers 0: out takes the new length; octets behind the new end stay.
  * Else answers, tested in this order, SFLOW4_REFUSED_BAD_LIMIT (21), SFLOW4_REFUSED_BAD_DATAGRAM (23),
  * SFLOW4_REFUSED_BAD_VALUE (22: the octets are not exactly one sample) or SFLOW4_REFUSED_NO_ROOM (20): the buffer and out
  * stay as they were. */
 uint32_t sflow4_append(uint8_t *buffer, size_t buffer_length, size_t limit, size_t length, const uint8_t *sample,
                        size_t sample_length, uint64_t *out, size_t out_length);
+
+/* The words of a flow sample that is appended, whatever its packet data. */
+enum {
+    SFLOW4_APPEND_SEQUENCE_NUMBER = 0,
+    SFLOW4_APPEND_SOURCE_ID = 1,
+    SFLOW4_APPEND_SAMPLING_RATE = 2,
+    SFLOW4_APPEND_SAMPLE_POOL = 3,
+    SFLOW4_APPEND_DROPS = 4,
+    SFLOW4_APPEND_INPUT = 5,
+    SFLOW4_APPEND_OUTPUT = 6,
+    SFLOW4_APPEND_EXTENDED_COUNT = 7, /* how many extended entries the entries' octets are */
+    SFLOW4_APPEND_FLOW_WORDS = 8
+};
+
+/* The packet's words for sflow4_append_ipv4. */
+enum {
+    SFLOW4_APPEND_IPV4_LENGTH = 0,
+    SFLOW4_APPEND_IPV4_PROTOCOL = 1,
+    SFLOW4_APPEND_IPV4_SOURCE = 2,
+    SFLOW4_APPEND_IPV4_DESTINATION = 3,
+    SFLOW4_APPEND_IPV4_SOURCE_PORT = 4,
+    SFLOW4_APPEND_IPV4_DESTINATION_PORT = 5,
+    SFLOW4_APPEND_IPV4_TCP_FLAGS = 6,
+    SFLOW4_APPEND_IPV4_TOS = 7,
+    SFLOW4_APPEND_IPV4_WORDS = 8
+};
+
+/* The packet's words for sflow4_append_ipv6. */
+enum {
+    SFLOW4_APPEND_IPV6_LENGTH = 0,
+    SFLOW4_APPEND_IPV6_PROTOCOL = 1,
+    SFLOW4_APPEND_IPV6_SOURCE = 2,      /* four words, 2 to 5 */
+    SFLOW4_APPEND_IPV6_DESTINATION = 6, /* four words, 6 to 9 */
+    SFLOW4_APPEND_IPV6_SOURCE_PORT = 10,
+    SFLOW4_APPEND_IPV6_DESTINATION_PORT = 11,
+    SFLOW4_APPEND_IPV6_TCP_FLAGS = 12,
+    SFLOW4_APPEND_IPV6_PRIORITY = 13,
+    SFLOW4_APPEND_IPV6_WORDS = 14
+};
+
+/* Puts a flow sample with a sampled header behind the datagram that is the buffer's first length octets, and adds 1 to the
+ * datagram's count of samples. Words are the sample's eight words above; protocol (1 to 13), frame length and header (at
+ * most 256 octets) are its packet data; entries are the octets of its extended entries, one behind the other, as
+ * sflow4_write wrote them (kinds 11 to 15), none where the count is 0.
+ * Answers 0: out takes the new length; octets behind the new end stay.
+ * Else answers, tested in this order, SFLOW4_REFUSED_BAD_LIMIT (21), SFLOW4_REFUSED_BAD_DATAGRAM (23),
+ * SFLOW4_REFUSED_BAD_VALUE (22: the words are not eight, the protocol or the header's length is not in the grammar, or the
+ * entries are not exactly so many) or SFLOW4_REFUSED_NO_ROOM (20): the buffer and out stay as they were. */
+uint32_t sflow4_append_header(uint8_t *buffer, size_t buffer_length, size_t limit, size_t length, const uint32_t *words,
+                              size_t words_length, uint32_t protocol, uint32_t frame_length, const uint8_t *header,
+                              size_t header_length, const uint8_t *entries, size_t entries_length, uint64_t *out,
+                              size_t out_length);
+
+/* The same with IPv4 packet data, the eight words above.
+ * Answers as sflow4_append_header does; SFLOW4_REFUSED_BAD_VALUE (22) where the words are not eight, the packet's are not
+ * eight, or the entries are not exactly so many. */
+uint32_t sflow4_append_ipv4(uint8_t *buffer, size_t buffer_length, size_t limit, size_t length, const uint32_t *words,
+                            size_t words_length, const uint32_t *packet, size_t packet_length, const uint8_t *entries,
+                            size_t entries_length, uint64_t *out, size_t out_length);
+
+/* The same with IPv6 packet data, the fourteen words above.
+ * Answers as sflow4_append_header does; SFLOW4_REFUSED_BAD_VALUE (22) where the words are not eight, the packet's are not
+ * fourteen, or the entries are not exactly so many. */
+uint32_t sflow4_append_ipv6(uint8_t *buffer, size_t buffer_length, size_t limit, size_t length, const uint32_t *words,
+                            size_t words_length, const uint32_t *packet, size_t packet_length, const uint8_t *entries,
+                            size_t entries_length, uint64_t *out, size_t out_length);
+
+/* Puts a counter sample behind the datagram that is the buffer's first length octets, and adds 1 to the datagram's count of
+ * samples. The numbers are the counters of the version in the RFC's order: 19 for versions 1, 4 and 6, 32 for 2, 37 for 3,
+ * 33 for 5, 6 for 7.
+ * Answers 0: out takes the new length; octets behind the new end stay.
+ * Else answers, tested in this order, SFLOW4_REFUSED_BAD_LIMIT (21), SFLOW4_REFUSED_BAD_DATAGRAM (23),
+ * SFLOW4_REFUSED_BAD_VALUE (22: the version is not 1 to 7, the numbers are not as many as it has or one is too large for its
+ * field) or SFLOW4_REFUSED_NO_ROOM (20): the buffer and out stay as they were. */
+uint32_t sflow4_append_counters(uint8_t *buffer, size_t buffer_length, size_t limit, size_t length,
+                                uint32_t sequence_number, uint32_t source_id, uint32_t interval, uint32_t version,
+                                const uint64_t *numbers, size_t numbers_length, uint64_t *out, size_t out_length);
 
 /* Kinds for sflow4_write: the words and octets that each takes. All but a path segment are written with their type word. */
 enum {

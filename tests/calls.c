@@ -9,6 +9,7 @@
 int main(void) {
     reading_calls();
     writing_calls();
+    appending_calls();
     ledger_calls();
     rule_set_calls();
     lines_calls();

@@ -4,41 +4,9 @@
 #include "../include/sflow4.h"
 #include "expect.h"
 #include "forms.h"
+#include "written.h"
 
 #include <string.h>
-
-enum { ROOM = 512 };
-
-/* A buffer and an array as they are before a call. */
-static uint8_t buffer[ROOM];
-static uint64_t out[3];
-
-static void renew(void) {
-    fill_octets(buffer, ROOM);
-    fill_numbers(out, 3);
-}
-
-/* The buffer has these octets and, behind them, what was there; the array has the length, and what was there. */
-static void expect_written(const char *what, uint32_t answer, const struct octets *wanted) {
-    uint8_t after[ROOM];
-    uint64_t array[3];
-    fill_octets(after, ROOM);
-    fill_numbers(array, 3);
-    memcpy(after, wanted->at, wanted->length);
-    array[SFLOW4_WRITTEN_LENGTH] = wanted->length;
-    expect_number(what, answer, SFLOW4_DONE);
-    expect_octets(what, buffer, after, ROOM);
-    expect_numbers(what, out, array, 3);
-}
-
-/* A refusal leaves both as they were. */
-static void expect_refused(const char *what, uint32_t answer, uint32_t number, const uint8_t *before) {
-    uint64_t array[3];
-    fill_numbers(array, 3);
-    expect_number(what, answer, number);
-    expect_octets(what, buffer, before, ROOM);
-    expect_numbers(what, out, array, 3);
-}
 
 static void started(void) {
     struct octets v4 = {{0}, 0}, v6 = {{0}, 0};

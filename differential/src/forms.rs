@@ -1,6 +1,5 @@
 //! Values as sflow4_write takes them: a kind, words and octets.
 
-use conformance::value::*;
 use conformance::write_calls::{FlowValues, Write};
 
 use crate::answers::FILL_OCTET;
@@ -171,45 +170,67 @@ pub fn flow_form(own: &FlowValues) -> Form {
     }
 }
 
-/// The form of packet data.
-pub fn packet_form(packet: &PacketData) -> Form {
-    match packet {
-        PacketData::Header(own) => {
-            Form::with_octets(HEADER, vec![own.protocol, own.frame_length], &own.header)
-        }
-        PacketData::Ipv4(own) => Form::of_words(IPV4, ipv4_words(own)),
-        PacketData::Ipv6(own) => Form::of_words(IPV6, ipv6_words(own)),
+/// The form of the extended entry that an array of sflow4_extended tells of; a gateway's path
+/// segments are written first.
+pub fn entry_form(octets: &[u8], array: &[u64]) -> Result<Form, u32> {
+    let string = |place: usize| octets_at(octets, array[place], array[place + 1]);
+    match array[0] {
+        1 => Ok(Form::of_words(SWITCH, narrowed(&array[2..6]))),
+        2 => Ok(Form::of_words(ROUTER, narrowed(&array[2..9]))),
+        3 => gateway_form(octets, array),
+        4 => Ok(user_form(string(2)?, string(4)?)),
+        5 => Ok(Form::with_octets(URL, narrowed(&array[2..3]), string(3)?)),
+        _ => Err(NO_ITEM),
     }
 }
 
-/// The form of an extended entry; a gateway's path segments are written first.
-pub fn entry_form(entry: &ExtendedData) -> Result<Form, u32> {
-    Ok(match entry {
-        ExtendedData::Switch(own) => Form::of_words(SWITCH, switch_words(own).to_vec()),
-        ExtendedData::Router(own) => {
-            let address = words_of(&own.nexthop);
-            let masks = [own.src_mask, own.dst_mask];
-            router_form(own.nexthop.type_number(), address, masks)
-        }
-        ExtendedData::Gateway(own) => gateway_form(own)?,
-        ExtendedData::User(own) => user_form(&own.src_user, &own.dst_user),
-        ExtendedData::Url(own) => Form::with_octets(URL, vec![own.direction.number()], &own.url),
-    })
+fn gateway_form(octets: &[u8], array: &[u64]) -> Result<Form, u32> {
+    let mut segment_octets = Vec::new();
+    let mut at = array[6];
+    for _ in 0..array[5] {
+        let mut segment = [0; 4];
+        done(calls::segment(octets, at as usize, &mut segment))?;
+        let numbers = words_at(octets, segment[3], segment[2])?;
+        segment_octets.extend(segment_form(segment[0] as u32, &numbers).octets()?);
+        at = segment[1];
+    }
+    let mut words = narrowed(&array[2..6]);
+    words.push(array[9] as u32);
+    words.extend(words_at(octets, array[8], array[7])?);
+    Ok(Form::with_octets(GATEWAY, words, &segment_octets))
 }
 
-fn gateway_form(own: &ExtendedGateway) -> Result<Form, u32> {
-    let mut octets = Vec::new();
-    for segment in &own.dst_as_path {
-        octets.extend(segment_form(segment.type_number(), segment.numbers()).octets()?);
+/// What is answered where the library told of a place or a kind that there is not; no function
+/// answers this.
+const NO_ITEM: u32 = u32::MAX;
+
+/// A number of a call as an answer.
+pub fn done(number: u32) -> Result<(), u32> {
+    match number {
+        0 => Ok(()),
+        refusal => Err(refusal),
     }
-    let segments = own.dst_as_path.len() as u32;
-    let mut words = vec![
-        own.r#as,
-        own.src_as,
-        own.src_peer_as,
-        segments,
-        own.localpref,
-    ];
-    words.extend(&own.communities);
-    Ok(Form::with_octets(GATEWAY, words, &octets))
+}
+
+/// The octets at a place that the library told.
+pub fn octets_at(octets: &[u8], at: u64, length: u64) -> Result<&[u8], u32> {
+    let end = at.wrapping_add(length) as usize;
+    octets.get(at as usize..end).ok_or(NO_ITEM)
+}
+
+/// The words at a place that the library told.
+fn words_at(octets: &[u8], at: u64, count: u64) -> Result<Vec<u32>, u32> {
+    let own = octets_at(octets, at, count.wrapping_mul(4))?;
+    let words = own.chunks_exact(4);
+    Ok(words
+        .map(|word| {
+            word.iter()
+                .fold(0, |all, &octet| all << 8 | u32::from(octet))
+        })
+        .collect())
+}
+
+/// The words that an array's numbers are.
+pub fn narrowed(numbers: &[u64]) -> Vec<u32> {
+    numbers.iter().map(|&number| number as u32).collect()
 }

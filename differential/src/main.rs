@@ -3,6 +3,7 @@
 #![deny(unsafe_code)]
 
 mod answers;
+mod appends;
 mod arguments;
 #[path = "../../rust/src/calls.rs"]
 mod calls;
@@ -13,6 +14,7 @@ mod item_numbers;
 mod ledger;
 mod lines;
 mod parts;
+mod random_appends;
 mod reading;
 mod rewriting;
 mod rule_sets;

@@ -5,9 +5,11 @@ use conformance::reader::read;
 use conformance::write_calls::{CountersValues, Write, WriteCall};
 
 use crate::answers::*;
+use crate::appends::{Append, Given, GivenFlow};
 use crate::calls;
-use crate::forms::{flow_form, form_of_call, written, Form};
+use crate::forms::{flow_form, form_of_call, Form};
 use crate::item_numbers::address_words;
+use crate::random_appends::{border_appends, random_appends};
 use crate::rewriting::compare_rewriting;
 use crate::tally::{Tally, Told};
 use crate::text::{from_difference, hex};
@@ -15,16 +17,17 @@ use crate::text::{from_difference, hex};
 /// Calls at scale 1.
 const CALLS: usize = 600_000;
 
+/// Appends from values at scale 1, besides those among the calls.
+const APPENDS: usize = 120_000;
+
 /// Datagrams at scale 1; the accepted ones are written again.
 const DATAGRAMS: usize = 60_000;
 
 /// Octets behind a buffer; they stay.
 pub const BEHIND: usize = 16;
 
-/// More octets than any counter sample has.
-pub const COUNTERS_ROOM: usize = 256;
-
-/// Compares on the calls of a seed, and on its accepted datagrams.
+/// Compares on the calls of a seed, on its appends from values, at the borders, and on its accepted
+/// datagrams.
 pub fn compare_all(tally: &mut Tally, seed: u64, scale: usize) {
     for call in writes(seed).take(CALLS.saturating_mul(scale)) {
         tally.input();
@@ -32,6 +35,11 @@ pub fn compare_all(tally: &mut Tally, seed: u64, scale: usize) {
         if let Some(form) = form_of_call(&call.write) {
             compare_wrong_form(tally, &call.buffer, form);
         }
+    }
+    let appends = random_appends(seed).take(APPENDS.saturating_mul(scale));
+    for (buffer, append) in border_appends().into_iter().chain(appends) {
+        tally.input();
+        compare_append(tally, &buffer, &append);
     }
     for octets in datagrams(seed).take(DATAGRAMS.saturating_mul(scale)) {
         if let Ok(reading) = read(&octets) {
@@ -41,23 +49,63 @@ pub fn compare_all(tally: &mut Tally, seed: u64, scale: usize) {
     }
 }
 
-/// Compares a call: its number, the length and the whole buffer.
-fn compare_call(tally: &mut Tally, call: &WriteCall) {
-    let (answer, expected) = call.carried_out();
-    let second = match answer {
+/// An answer of the second program.
+fn answer_of(second: Result<usize, u32>) -> Answer {
+    match second {
         Ok(length) => Answer::new(0, vec![length as u64]),
         Err(refusal) => Answer::new(refusal, Vec::new()),
-    };
+    }
+}
+
+/// Compares a call: its number, the length and the whole buffer.
+fn compare_call(tally: &mut Tally, call: &WriteCall) {
+    if let Some(append) = append_of_call(&call.write) {
+        return compare_append(tally, &call.buffer, &append);
+    }
+    let (second, expected) = call.carried_out();
     let ours = |buffer: &mut [u8], out: &mut [u64]| carry_out(&call.write, buffer, out);
     let input = || format!("{:?} buffer {}", call.write, hex(&call.buffer));
     compare_written(
         tally,
         name_of(&call.write),
         &input,
-        (&second, &expected),
+        (&answer_of(second), &expected),
         &call.buffer,
         &ours,
     );
+}
+
+/// Compares an append from values.
+fn compare_append(tally: &mut Tally, before: &[u8], append: &Append) {
+    let mut expected = before.to_vec();
+    let second = answer_of(append.second(&mut expected));
+    let ours = |buffer: &mut [u8], out: &mut [u64]| append.ours(buffer, out);
+    let input = || format!("{append:?} buffer {}", hex(before));
+    let function = append.sample.function();
+    compare_written(tally, function, &input, (&second, &expected), before, &ours);
+}
+
+/// The append of a call, if it is given by values. A flow sample whose packet octets are not packet
+/// data has none.
+fn append_of_call(write: &Write) -> Option<Append> {
+    let (limit, length, sample) = match write {
+        Write::AppendFlow {
+            limit,
+            length,
+            flow,
+        } => (limit, length, Given::Flow(GivenFlow::of_octets(flow)?)),
+        Write::AppendCounters {
+            limit,
+            length,
+            counters,
+        } => (limit, length, Given::Counters(counters.clone())),
+        _ => return None,
+    };
+    Some(Append {
+        limit: *limit,
+        length: *length,
+        sample,
+    })
 }
 
 /// Compares what a call does to a buffer; the second program's answer comes with its buffer.
@@ -117,11 +165,6 @@ fn carry_out(write: &Write, buffer: &mut [u8], out: &mut [u64]) -> u32 {
             length,
             flow,
         } => append_written(buffer, *limit, *length, flow_form(flow).octets(), out),
-        Write::AppendCounters {
-            limit,
-            length,
-            counters,
-        } => append_written(buffer, *limit, *length, counters_octets(counters), out),
         Write::Counters(own) => write_counters(own, buffer, out),
         _ => form_of_call(write).map_or(u32::MAX, |form| form.write(buffer, out)),
     }
@@ -148,19 +191,12 @@ fn write_counters(own: &CountersValues, buffer: &mut [u8], out: &mut [u64]) -> u
     calls::write_counters(words, &own.numbers, buffer, out)
 }
 
-fn counters_octets(own: &CountersValues) -> Result<Vec<u8>, u32> {
-    written(COUNTERS_ROOM, |buffer, out| {
-        write_counters(own, buffer, out)
-    })
-}
-
 /// The library's function for a call.
 fn name_of(write: &Write) -> &'static str {
     match write {
         Write::Start { .. } => "sflow4_start",
         Write::Append { .. } => "sflow4_append",
         Write::AppendFlow { .. } => "sflow4_write and sflow4_append",
-        Write::AppendCounters { .. } => "sflow4_write_counters and sflow4_append",
         Write::Counters(_) => "sflow4_write_counters",
         _ => "sflow4_write",
     }

@@ -54,6 +54,64 @@ extern "C" {
         out: *mut u64,
         out_length: usize,
     ) -> u32;
+    fn sflow4_append_header(
+        buffer: *mut u8,
+        buffer_length: usize,
+        limit: usize,
+        length: usize,
+        words: *const u32,
+        words_length: usize,
+        protocol: u32,
+        frame_length: u32,
+        header: *const u8,
+        header_length: usize,
+        entries: *const u8,
+        entries_length: usize,
+        out: *mut u64,
+        out_length: usize,
+    ) -> u32;
+    fn sflow4_append_ipv4(
+        buffer: *mut u8,
+        buffer_length: usize,
+        limit: usize,
+        length: usize,
+        words: *const u32,
+        words_length: usize,
+        packet: *const u32,
+        packet_length: usize,
+        entries: *const u8,
+        entries_length: usize,
+        out: *mut u64,
+        out_length: usize,
+    ) -> u32;
+    fn sflow4_append_ipv6(
+        buffer: *mut u8,
+        buffer_length: usize,
+        limit: usize,
+        length: usize,
+        words: *const u32,
+        words_length: usize,
+        packet: *const u32,
+        packet_length: usize,
+        entries: *const u8,
+        entries_length: usize,
+        out: *mut u64,
+        out_length: usize,
+    ) -> u32;
+    fn sflow4_append_counters(
+        buffer: *mut u8,
+        buffer_length: usize,
+        limit: usize,
+        length: usize,
+        sequence_number: u32,
+        source_id: u32,
+        interval: u32,
+        version: u32,
+        numbers: *const u64,
+        numbers_length: usize,
+        out: *mut u64,
+        out_length: usize,
+    ) -> u32;
     fn sflow4_write(
         kind: u32,
         words: *const u32,
@@ -214,6 +272,119 @@ pub(crate) fn append(
             sample.len(),
             out,
             room,
+        )
+    }
+}
+
+/// The header is its protocol, frame length and octets.
+pub(crate) fn append_header(
+    buffer: &mut [u8],
+    limit: usize,
+    length: usize,
+    words: &[u32],
+    header: (u32, u32, &[u8]),
+    entries: &[u8],
+    out: &mut [u64],
+) -> u32 {
+    let (protocol, frame_length, header) = header;
+    unsafe {
+        sflow4_append_header(
+            buffer.as_mut_ptr(),
+            buffer.len(),
+            limit,
+            length,
+            words.as_ptr(),
+            words.len(),
+            protocol,
+            frame_length,
+            header.as_ptr(),
+            header.len(),
+            entries.as_ptr(),
+            entries.len(),
+            out.as_mut_ptr(),
+            out.len(),
+        )
+    }
+}
+
+pub(crate) fn append_ipv4(
+    buffer: &mut [u8],
+    limit: usize,
+    length: usize,
+    words: &[u32],
+    packet: &[u32],
+    entries: &[u8],
+    out: &mut [u64],
+) -> u32 {
+    unsafe {
+        sflow4_append_ipv4(
+            buffer.as_mut_ptr(),
+            buffer.len(),
+            limit,
+            length,
+            words.as_ptr(),
+            words.len(),
+            packet.as_ptr(),
+            packet.len(),
+            entries.as_ptr(),
+            entries.len(),
+            out.as_mut_ptr(),
+            out.len(),
+        )
+    }
+}
+
+pub(crate) fn append_ipv6(
+    buffer: &mut [u8],
+    limit: usize,
+    length: usize,
+    words: &[u32],
+    packet: &[u32],
+    entries: &[u8],
+    out: &mut [u64],
+) -> u32 {
+    unsafe {
+        sflow4_append_ipv6(
+            buffer.as_mut_ptr(),
+            buffer.len(),
+            limit,
+            length,
+            words.as_ptr(),
+            words.len(),
+            packet.as_ptr(),
+            packet.len(),
+            entries.as_ptr(),
+            entries.len(),
+            out.as_mut_ptr(),
+            out.len(),
+        )
+    }
+}
+
+/// The words are sequence number, source id, interval and version.
+pub(crate) fn append_counters(
+    buffer: &mut [u8],
+    limit: usize,
+    length: usize,
+    words: [u32; 4],
+    numbers: &[u64],
+    out: &mut [u64],
+) -> u32 {
+    let [sequence_number, source_id, interval, version] = words;
+    unsafe {
+        sflow4_append_counters(
+            buffer.as_mut_ptr(),
+            buffer.len(),
+            limit,
+            length,
+            sequence_number,
+            source_id,
+            interval,
+            version,
+            numbers.as_ptr(),
+            numbers.len(),
+            out.as_mut_ptr(),
+            out.len(),
         )
     }
 }

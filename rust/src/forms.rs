@@ -35,40 +35,12 @@ pub fn write_header(buffer: &mut [u8], header: &SampledHeader<'_>) -> Result<usi
 
 /// Writes packet data of type 2, IPv4, with their type word.
 pub fn write_ipv4(buffer: &mut [u8], data: &Ipv4Data) -> Result<usize, WriteRefusal> {
-    let words = [
-        data.length,
-        data.protocol,
-        data.source.into(),
-        data.destination.into(),
-        data.source_port,
-        data.destination_port,
-        data.tcp_flags,
-        data.tos,
-    ];
-    write(2, &words, &[], &[], buffer)
+    write(2, &data.words(), &[], &[], buffer)
 }
 
 /// Writes packet data of type 3, IPv6, with their type word.
 pub fn write_ipv6(buffer: &mut [u8], data: &Ipv6Data) -> Result<usize, WriteRefusal> {
-    let [a, b, c, d] = address::to_ipv6_words(data.source);
-    let [e, f, g, h] = address::to_ipv6_words(data.destination);
-    let words = [
-        data.length,
-        data.protocol,
-        a,
-        b,
-        c,
-        d,
-        e,
-        f,
-        g,
-        h,
-        data.source_port,
-        data.destination_port,
-        data.tcp_flags,
-        data.priority,
-    ];
-    write(3, &words, &[], &[], buffer)
+    write(3, &data.words(), &[], &[], buffer)
 }
 
 /// Writes an extended entry of type 1, switch, with its type word.
@@ -188,16 +160,7 @@ pub fn write_flow(
     extended_count: u32,
     extended: &[u8],
 ) -> Result<usize, WriteRefusal> {
-    let words = [
-        words.sequence_number,
-        words.source_id.0,
-        words.sampling_rate,
-        words.sample_pool,
-        words.drops,
-        words.input,
-        words.output,
-        extended_count,
-    ];
+    let words = words.with_count(extended_count);
     write(21, &words, packet, extended, buffer)
 }
 
@@ -209,13 +172,7 @@ pub fn write_counters(
     words: &CounterWords,
     counters: &[u64],
 ) -> Result<usize, WriteRefusal> {
-    let words = [
-        words.sequence_number,
-        words.source_id.0,
-        words.interval,
-        words.version,
-    ];
     let mut out = [0];
-    let number = calls::write_counters(words, counters, buffer, &mut out);
+    let number = calls::write_counters(words.words(), counters, buffer, &mut out);
     length(number, out)
 }

@@ -9,7 +9,7 @@
 //! | To do | Here |
 //! |---|---|
 //! | read a datagram, its samples and their extended data | [`read`], [`Head::samples`], [`FlowSample::extended`], [`Gateway::segments`] |
-//! | write one | [`Writer`], and `write_..` for each form |
+//! | write one | [`Writer`] with an `append_..` for each kind of sample, and `write_..` for each form |
 //! | count lost flow samples | [`Ledger`] |
 //! | sort flow samples by rules | [`check`], [`run`], [`Rule`] |
 //! | list a capture | [`list`], [`end_lines`] |

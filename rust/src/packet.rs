@@ -47,6 +47,22 @@ pub struct Ipv4Data {
     pub tos: u32,
 }
 
+impl Ipv4Data {
+    /// The eight words that the library takes.
+    pub(crate) fn words(&self) -> [u32; 8] {
+        [
+            self.length,
+            self.protocol,
+            self.source.into(),
+            self.destination.into(),
+            self.source_port,
+            self.destination_port,
+            self.tcp_flags,
+            self.tos,
+        ]
+    }
+}
+
 /// Fields of an IPv6 packet.
 #[derive(Clone, Copy, Debug, PartialEq, Eq)]
 pub struct Ipv6Data {
@@ -66,6 +82,30 @@ pub struct Ipv6Data {
     pub tcp_flags: u32,
     /// priority
     pub priority: u32,
+}
+
+impl Ipv6Data {
+    /// The fourteen words that the library takes.
+    pub(crate) fn words(&self) -> [u32; 14] {
+        let [a, b, c, d] = address::to_ipv6_words(self.source);
+        let [e, f, g, h] = address::to_ipv6_words(self.destination);
+        [
+            self.length,
+            self.protocol,
+            a,
+            b,
+            c,
+            d,
+            e,
+            f,
+            g,
+            h,
+            self.source_port,
+            self.destination_port,
+            self.tcp_flags,
+            self.priority,
+        ]
+    }
 }
 
 fn ipv4_data(out: &[u64; 45]) -> Ipv4Data {

@@ -57,6 +57,22 @@ pub struct FlowWords {
     pub output: u32,
 }
 
+impl FlowWords {
+    /// The eight words that the library takes: the count of extended entries is the last.
+    pub(crate) fn with_count(&self, extended_count: u32) -> [u32; 8] {
+        [
+            self.sequence_number,
+            self.source_id.0,
+            self.sampling_rate,
+            self.sample_pool,
+            self.drops,
+            self.input,
+            self.output,
+            extended_count,
+        ]
+    }
+}
+
 /// A flow sample.
 #[derive(Clone, Debug, PartialEq, Eq)]
 pub struct FlowSample<'a> {
@@ -115,6 +131,18 @@ pub struct CounterWords {
     pub interval: u32,
     /// which counters follow: 1 generic, 2 Ethernet, 3 token ring, 4 FDDI, 5 VG, 6 WAN, 7 VLAN
     pub version: u32,
+}
+
+impl CounterWords {
+    /// The four words that the library takes.
+    pub(crate) fn words(&self) -> [u32; 4] {
+        [
+            self.sequence_number,
+            self.source_id.0,
+            self.interval,
+            self.version,
+        ]
+    }
 }
 
 /// A counter sample.

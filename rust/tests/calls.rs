@@ -3,6 +3,8 @@
 
 #[path = "calls/any_octets.rs"]
 mod any_octets;
+#[path = "calls/appending.rs"]
+mod appending;
 #[path = "calls/forms.rs"]
 mod forms;
 #[path = "calls/ledger.rs"]

@@ -1,22 +1,21 @@
-//! Writing a datagram again from its values: each part of a sample into a buffer of its own, the
-//! sample from these into another one, and that behind the datagram so far. The values are read once, before the first turn.
+//! Writing a datagram again from its values: each sample is appended from them behind the datagram
+//! so far, where its extended entries are octets that were written to a buffer of their own (and, for
+//! the second program, its packet data). The values are read once, before the first turn.
 
 use std::hint::black_box;
 
 use conformance::reader;
 use conformance::value::{Address, CountersSample, Datagram, ExtendedData, ExtendedSwitch};
 use conformance::value::{FlowSample, PacketData, Sample, SampledHeader};
-use conformance::writer::{self, GivenAddress};
+use conformance::writer::{self, GivenAddress, GivenCounters, GivenFlow};
 
 use crate::{calls, repeated, word, Side, Work};
 
 /// The longest datagram, and the length of its buffer.
 const LIMIT: usize = 1500;
 
-/// Kinds of `calls::write`, as include/sflow4.h names them.
-const WRITE_HEADER: u32 = 1;
+/// The kind of a switch entry for `calls::write`, as include/sflow4.h names it.
 const WRITE_SWITCH: u32 = 11;
-const WRITE_FLOW: u32 = 21;
 
 /// A refusal's number.
 type Written = Result<usize, u32>;
@@ -24,7 +23,6 @@ type Written = Result<usize, u32>;
 /// The buffers that are written to, the same in all turns; nothing clears them.
 struct Buffers {
     datagram: [u8; LIMIT],
-    sample: [u8; 512],
     packet: [u8; 512],
     entries: [u8; 512],
 }
@@ -33,7 +31,6 @@ pub fn write(work: Work) -> Result<u64, String> {
     let given = reader::read(&work.octets).map_err(|refusal| refusal.to_string())?;
     let mut buffers = Buffers {
         datagram: [0; LIMIT],
-        sample: [0; 512],
         packet: [0; 512],
         entries: [0; 512],
     };
@@ -81,30 +78,16 @@ fn ours(datagram: &Datagram, to: &mut Buffers) -> Written {
     let answer = calls::start(&mut to.datagram, LIMIT, agent, sequence, uptime, &mut out);
     let mut length = written(answer, out)?;
     for sample in &datagram.samples {
-        let octets = match sample {
-            Sample::Flow(flow) => ours_flow(flow, to)?,
-            Sample::Counters(counters) => ours_counters(counters, to)?,
+        length = match sample {
+            Sample::Flow(flow) => ours_flow(flow, length, to)?,
+            Sample::Counters(counters) => ours_counters(counters, length, to)?,
         };
-        let sample = &to.sample[..octets];
-        let answer = calls::append(&mut to.datagram, LIMIT, length, sample, &mut out);
-        length = written(answer, out)?;
     }
     Ok(length)
 }
 
-fn ours_flow(flow: &FlowSample, to: &mut Buffers) -> Written {
+fn ours_flow(flow: &FlowSample, length: usize, to: &mut Buffers) -> Written {
     let mut out = [0];
-    let header = header_of(flow)?;
-    let words = [header.protocol, header.frame_length];
-    let answer = calls::write(
-        WRITE_HEADER,
-        &words,
-        &header.header,
-        &[],
-        &mut to.packet,
-        &mut out,
-    );
-    let packet = written(answer, out)?;
     let mut entries = 0;
     for entry in &flow.extended_data {
         let own = switch_of(entry)?;
@@ -130,21 +113,16 @@ fn ours_flow(flow: &FlowSample, to: &mut Buffers) -> Written {
         flow.output,
         flow.extended_data.len() as u32,
     ];
-    let (packet, entries) = (&to.packet[..packet], &to.entries[..entries]);
+    let own = header_of(flow)?;
+    let header = (own.protocol, own.frame_length, own.header.as_slice());
+    let (datagram, entries) = (&mut to.datagram, &to.entries[..entries]);
     written(
-        calls::write(
-            WRITE_FLOW,
-            &words,
-            packet,
-            entries,
-            &mut to.sample,
-            &mut out,
-        ),
+        calls::append_header(datagram, LIMIT, length, &words, header, entries, &mut out),
         out,
     )
 }
 
-fn ours_counters(own: &CountersSample, to: &mut Buffers) -> Written {
+fn ours_counters(own: &CountersSample, length: usize, to: &mut Buffers) -> Written {
     let mut out = [0];
     let version = own.version.number();
     let words = [
@@ -153,8 +131,9 @@ fn ours_counters(own: &CountersSample, to: &mut Buffers) -> Written {
         own.sampling_interval,
         version,
     ];
+    let (datagram, numbers) = (&mut to.datagram, &own.counters);
     written(
-        calls::write_counters(words, &own.counters, &mut to.sample, &mut out),
+        calls::append_counters(datagram, LIMIT, length, words, numbers, &mut out),
         out,
     )
 }
@@ -164,16 +143,15 @@ fn second(datagram: &Datagram, to: &mut Buffers) -> Written {
     let (sequence, uptime) = (datagram.sequence_number, datagram.uptime);
     let mut length = writer::start(&mut to.datagram, LIMIT, &agent, sequence, uptime)?;
     for sample in &datagram.samples {
-        let octets = match sample {
-            Sample::Flow(flow) => second_flow(flow, to)?,
-            Sample::Counters(counters) => second_counters(counters, to)?,
+        length = match sample {
+            Sample::Flow(flow) => second_flow(flow, length, to)?,
+            Sample::Counters(counters) => second_counters(counters, length, to)?,
         };
-        length = writer::append(&mut to.datagram, LIMIT, length, &to.sample[..octets])?;
     }
     Ok(length)
 }
 
-fn second_flow(flow: &FlowSample, to: &mut Buffers) -> Written {
+fn second_flow(flow: &FlowSample, length: usize, to: &mut Buffers) -> Written {
     let own = header_of(flow)?;
     let packet = writer::write_header(&mut to.packet, own.protocol, own.frame_length, &own.header)?;
     let mut entries = 0;
@@ -189,22 +167,24 @@ fn second_flow(flow: &FlowSample, to: &mut Buffers) -> Written {
         flow.input,
         flow.output,
     ];
-    let count = flow.extended_data.len() as u32;
-    let (packet, entries) = (&to.packet[..packet], &to.entries[..entries]);
-    writer::write_flow(&mut to.sample, words, packet, count, entries)
+    let given = GivenFlow {
+        words,
+        packet_octets: &to.packet[..packet],
+        entries: flow.extended_data.len() as u32,
+        entry_octets: &to.entries[..entries],
+    };
+    writer::append_flow(&mut to.datagram, LIMIT, length, &given)
 }
 
-fn second_counters(own: &CountersSample, to: &mut Buffers) -> Written {
-    let (source, interval) = (own.source_id, own.sampling_interval);
-    let (version, numbers) = (own.version.number(), &own.counters);
-    writer::write_counters(
-        &mut to.sample,
-        own.sequence_number,
-        source,
-        interval,
-        version,
-        numbers,
-    )
+fn second_counters(own: &CountersSample, length: usize, to: &mut Buffers) -> Written {
+    let given = GivenCounters {
+        sequence: own.sequence_number,
+        source: own.source_id,
+        interval: own.sampling_interval,
+        version: own.version.number(),
+        numbers: &own.counters,
+    };
+    writer::append_counters(&mut to.datagram, LIMIT, length, &given)
 }
 
 /// The header of a flow sample; the inputs have no other packet data.

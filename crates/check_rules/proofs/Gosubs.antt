@@ -10,7 +10,7 @@ use Rattle.rules.specs.declared.Rule.{Rule}
 use Rattle.rules.specs.declared.Declared.{Declared}
 use Rattle.rules.specs.declared.RuleRecord.{RuleRecord}
 use Rattle.rules.specs.Opcodes.{actionOf, isGosub}
-use Rattle.rules.specs.Checks.{some, differs, aims, comesBackNowhere, comesBackOtherwise}
+use Rattle.rules.specs.Checks.{anyUpTo, differs, aims, comesBackNowhere, comesBackOtherwise}
 use Rattle.rules.proofs.Tests.{and-false, some-false}
 use Rattle.check_rules.proofs.Records.{not-leb}
 
@@ -49,12 +49,12 @@ module _ (at : ℕ → RuleRecord) (home g : ℕ) (x : RuleRecord) (a : Bool) (e
 
 -- ---- all rules from 1 to n
 
-pub some-more : (f : ℕ → Bool) (g : ℕ) → some f g ≡ false → f (g + 1) ≡ false → some f (g + 1) ≡ false
+pub some-more : (f : ℕ → Bool) (g : ℕ) → anyUpTo f g ≡ false → f (g + 1) ≡ false → anyUpTo f (g + 1) ≡ false
 some-more f g e h = rw (add-one, e) (rw add-one at h)
 
-pub some-here : (f : ℕ → Bool) (n g : ℕ) → 1 ≤ g → g ≤ n → f g ≡ true → some f n ≡ true
-some-here f n g l h e = go (some f n) refl
+pub some-here : (f : ℕ → Bool) (n g : ℕ) → 1 ≤ g → g ≤ n → f g ≡ true → anyUpTo f n ≡ true
+some-here f n g l h e = go (anyUpTo f n) refl
   where
-    go : (b : Bool) → some f n ≡ b → b ≡ true
+    go : (b : Bool) → anyUpTo f n ≡ b → b ≡ true
     go true t = refl
     go false t = sym (some-false f n t g l h) ∙ e

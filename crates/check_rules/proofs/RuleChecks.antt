@@ -11,22 +11,22 @@ use Rattle.rules.specs.declared.CheckRefusal.the-variants.{Target, Successor}
 use Rattle.rules.specs.declared.RuleCheck.{RuleCheck}
 use Rattle.rules.specs.declared.RuleCheck.the-variants.{Fine, Breaks}
 use Rattle.rules.specs.Opcodes.{actionOf, isReturn}
-use Rattle.rules.specs.Records.{count, recordOf, ruleOf, declaredOf}
-use Rattle.rules.specs.Checks.{orElse, orBreaks, some, formOf, badQueue, aloneOf, comesBackNowhere, comesBackOtherwise, returnsNowhere, nextDiffers, targetDiffers, returnDiffers, restOf, ruleCheck}
+use Rattle.rules.specs.Records.{ruleCount, recordOf, ruleOf, declaredOf}
+use Rattle.rules.specs.Checks.{unlessBroken, orBreaks, anyUpTo, formOf, badQueue, aloneOf, comesBackNowhere, comesBackOtherwise, returnsNowhere, nextDiffers, targetDiffers, returnDiffers, restOf, ruleCheck}
 use Rattle.rules.proofs.Tests.{true-false}
 
 -- what the record of rule i of n breaks by itself: 31 to 37, but for the Gosubs of a Return
 abbrev byRecord : ℕ → ℕ → RuleRecord → RuleCheck
-byRecord n i x = orElse (formOf (x .mark) (x .rule .attribute) (x .rule .opcode)) (aloneOf n i (x .rule) (x .declared))
+byRecord n i x = unlessBroken (formOf (x .mark) (x .rule .attribute) (x .rule .opcode)) (aloneOf n i (x .rule) (x .declared))
 
 -- the Gosubs from which a Return, by its record, comes back at no rule, and at one that declares otherwise
 abbrev pub nowhereFrom : List ℕ → RuleRecord → ℕ → Bool
-nowhereFrom s x = comesBackNowhere (count s) (ruleOf s) (declaredOf s) (x .declared .home) (x .rule .parameter)
+nowhereFrom s x = comesBackNowhere (ruleCount s) (ruleOf s) (declaredOf s) (x .declared .home) (x .rule .parameter)
 
 abbrev pub otherwiseFrom : List ℕ → RuleRecord → ℕ → Bool
-otherwiseFrom s x = comesBackOtherwise (count s) (ruleOf s) (declaredOf s) (x .declared .home) (x .rule .parameter) (x .declared .held)
+otherwiseFrom s x = comesBackOtherwise (ruleCount s) (ruleOf s) (declaredOf s) (x .declared .home) (x .rule .parameter) (x .declared .held)
 
-else-joined : (a b c : RuleCheck) → orElse a (orElse b c) ≡ orElse (orElse a b) c
+else-joined : (a b c : RuleCheck) → unlessBroken a (unlessBroken b c) ≡ unlessBroken (unlessBroken a b) c
 else-joined Fine b c = refl
 else-joined (Breaks why) b c = refl
 
@@ -52,14 +52,14 @@ module _ (s : List ℕ) (x : RuleRecord) where
   -- a Return that comes back from each Gosub at some rule, and at one that declares the same; or no Return
   abbrev pub Kept : Type 0
   Kept =
-      (returnsNowhere (count s) (ruleOf s) (declaredOf s) (x .rule) (x .declared) ≡ false)
-      × (returnDiffers (count s) (ruleOf s) (declaredOf s) (x .rule) (x .declared) ≡ false)
+      (returnsNowhere (ruleCount s) (ruleOf s) (declaredOf s) (x .rule) (x .declared) ≡ false)
+      × (returnDiffers (ruleCount s) (ruleOf s) (declaredOf s) (x .rule) (x .declared) ≡ false)
 
   pub no-return : isReturn (actionOf (x .rule .opcode)) ≡ false → Kept
   unfolding returnsNowhere
   no-return f = (rw f refl, rw f refl)
 
-  pub comes-back : some (nowhereFrom s x) (count s) ≡ false → some (otherwiseFrom s x) (count s) ≡ false → Kept
+  pub comes-back : anyUpTo (nowhereFrom s x) (ruleCount s) ≡ false → anyUpTo (otherwiseFrom s x) (ruleCount s) ≡ false → Kept
   unfolding returnsNowhere
   comes-back f g = (go (isReturn (actionOf (x .rule .opcode))) _ f, go (isReturn (actionOf (x .rule .opcode))) _ g)
     where
@@ -69,24 +69,24 @@ module _ (s : List ℕ) (x : RuleRecord) where
 
   -- of rule i
   module _ (i : ℕ) (e : x ≡ recordOf s i) where
-    parts : ruleCheck s i ≡ orElse (byRecord (count s) i x) (orBreaks (returnsNowhere (count s) (ruleOf s) (declaredOf s) (x .rule) (x .declared)) Target (restOf (count s) (ruleOf s) (declaredOf s) i (x .rule) (x .declared)))
+    parts : ruleCheck s i ≡ unlessBroken (byRecord (ruleCount s) i x) (orBreaks (returnsNowhere (ruleCount s) (ruleOf s) (declaredOf s) (x .rule) (x .declared)) Target (restOf (ruleCount s) (ruleOf s) (declaredOf s) i (x .rule) (x .declared)))
     unfolding ruleCheck
-    parts = rw e (else-joined (formOf (recordOf s i .mark) (ruleOf s i .attribute) (ruleOf s i .opcode)) (aloneOf (count s) i (ruleOf s i) (declaredOf s i)) _)
+    parts = rw e (else-joined (formOf (recordOf s i .mark) (ruleOf s i .attribute) (ruleOf s i .opcode)) (aloneOf (ruleCount s) i (ruleOf s i) (declaredOf s i)) _)
 
-    pub breaks-alone : (why : CheckRefusal) → byRecord (count s) i x ≡ Breaks why → ruleCheck s i ≡ Breaks why
+    pub breaks-alone : (why : CheckRefusal) → byRecord (ruleCount s) i x ≡ Breaks why → ruleCheck s i ≡ Breaks why
     breaks-alone why f = parts ∙ rw f refl
 
-    pub goes-on : byRecord (count s) i x ≡ Fine → returnsNowhere (count s) (ruleOf s) (declaredOf s) (x .rule) (x .declared) ≡ false
-        → ruleCheck s i ≡ restOf (count s) (ruleOf s) (declaredOf s) i (x .rule) (x .declared)
+    pub goes-on : byRecord (ruleCount s) i x ≡ Fine → returnsNowhere (ruleCount s) (ruleOf s) (declaredOf s) (x .rule) (x .declared) ≡ false
+        → ruleCheck s i ≡ restOf (ruleCount s) (ruleOf s) (declaredOf s) i (x .rule) (x .declared)
     goes-on f g = parts ∙ rw (f, g) refl
 
-    pub breaks-target : byRecord (count s) i x ≡ Fine → isReturn (actionOf (x .rule .opcode)) ≡ true → some (nowhereFrom s x) (count s) ≡ true
+    pub breaks-target : byRecord (ruleCount s) i x ≡ Fine → isReturn (actionOf (x .rule .opcode)) ≡ true → anyUpTo (nowhereFrom s x) (ruleCount s) ≡ true
         → ruleCheck s i ≡ Breaks Target
     unfolding returnsNowhere
     breaks-target f g h = parts ∙ rw (f, g, h) refl
 
-    pub breaks-successor : byRecord (count s) i x ≡ Fine → isReturn (actionOf (x .rule .opcode)) ≡ true → some (nowhereFrom s x) (count s) ≡ false
-        → some (otherwiseFrom s x) (count s) ≡ true → ruleCheck s i ≡ Breaks Successor
+    pub breaks-successor : byRecord (ruleCount s) i x ≡ Fine → isReturn (actionOf (x .rule .opcode)) ≡ true → anyUpTo (nowhereFrom s x) (ruleCount s) ≡ false
+        → anyUpTo (otherwiseFrom s x) (ruleCount s) ≡ true → ruleCheck s i ≡ Breaks Successor
     unfolding returnsNowhere restOf
     breaks-successor f g h k =
         goes-on f (rw (g, h) refl)
@@ -94,5 +94,5 @@ module _ (s : List ℕ) (x : RuleRecord) where
           return-queue (actionOf (x .rule .opcode)) (x .declared .held) g,
           g,
           k,
-          or-true (nextDiffers (count s) (ruleOf s) (declaredOf s) i (x .rule) (x .declared) || targetDiffers (count s) (ruleOf s) (declaredOf s) (x .rule) (x .declared)),
+          or-true (nextDiffers (ruleCount s) (ruleOf s) (declaredOf s) i (x .rule) (x .declared) || targetDiffers (ruleCount s) (ruleOf s) (declaredOf s) (x .rule) (x .declared)),
         ) refl

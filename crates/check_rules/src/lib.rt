@@ -12,8 +12,8 @@ ghost use mathlib.Core.Bool.{false, _&&_, _||_};
 ghost use Prim.Native.Nat.{_≤_};
 ghost use lib.Dec.{eqb, ltb};
 ghost use Rattle.rules.specs.Opcodes.{actionOf, isReturn, isGosub, gotoFlag};
-ghost use Rattle.rules.specs.Records.{count, ruleOf, declaredOf};
-ghost use Rattle.rules.specs.Checks.{orElse, known, badOpcode, formOf, differs, badTarget, aloneOf, badQueue, heldAfter, comesBackNowhere, comesBackOtherwise, nextDiffers, targetDiffers, returnDiffers, restOf, ruleCheck, named, firstOf, badLength, check};
+ghost use Rattle.rules.specs.Records.{ruleCount, ruleOf, declaredOf};
+ghost use Rattle.rules.specs.Checks.{unlessBroken, known, badOpcode, formOf, differs, badTarget, aloneOf, badQueue, heldAfter, comesBackNowhere, comesBackOtherwise, nextDiffers, targetDiffers, returnDiffers, restOf, ruleCheck, named, firstBroken, badLength, check};
 
 // ---- by a record alone
 
@@ -171,7 +171,7 @@ fn check_alone(n: usize, i: usize, rule: Rule, declared: Declared) -> RuleCheck
 
 // Refusals 31 to 37 of rule i of n, but for the Gosubs of a Return.
 fn check_record(n: usize, i: usize, own: RuleRecord) -> RuleCheck
-    ensures { λ r. ⌜ r ≡ orElse (formOf (own .mark) (own .rule .attribute) (own .rule .opcode)) (aloneOf n i (own .rule) (own .declared)) ⌝ }
+    ensures { λ r. ⌜ r ≡ unlessBroken (formOf (own .mark) (own .rule .attribute) (own .rule .opcode)) (aloneOf n i (own .rule) (own .declared)) ⌝ }
 {
     let rule = own.rule;
     let declared = own.declared;
@@ -211,8 +211,8 @@ fn comes_back_nowhere(s: &[u8], n: usize, back: RuleRecord, g: usize) -> bool
 
 // Whether rule g is a Gosub aimed at a Return's home, and the rule that the Return comes back to declares otherwise.
 fn comes_back_otherwise(s: &[u8], back: RuleRecord, g: usize) -> bool
-    requires { ⌜ comesBackNowhere (count (now s)) (ruleOf (now s)) (declaredOf (now s)) (back .declared .home) (back .rule .parameter) g ≡ false ⌝ }
-    ensures { λ r. ⌜ r ≡ comesBackOtherwise (count (now (s .entry))) (ruleOf (now (s .entry))) (declaredOf (now (s .entry)))
+    requires { ⌜ comesBackNowhere (ruleCount (now s)) (ruleOf (now s)) (declaredOf (now s)) (back .declared .home) (back .rule .parameter) g ≡ false ⌝ }
+    ensures { λ r. ⌜ r ≡ comesBackOtherwise (ruleCount (now (s .entry))) (ruleOf (now (s .entry))) (declaredOf (now (s .entry)))
         (back .declared .home) (back .rule .parameter) (back .declared .held) g ⌝ }
 {
     let rule = back.rule;
@@ -294,7 +294,7 @@ fn next_differs(s: &[u8], n: usize, i: usize, own: RuleRecord) -> bool
 // Whether a rule's action has a goto flag, and its target declares otherwise.
 fn target_differs(s: &[u8], own: RuleRecord, action: Action) -> bool
     requires { ⌜ (action ≡ actionOf (own .rule .opcode)) × (badQueue action (own .declared .held) ≡ false) ⌝ }
-    ensures { λ r. ⌜ r ≡ targetDiffers (count (now (s .entry))) (ruleOf (now (s .entry))) (declaredOf (now (s .entry))) (own .rule) (own .declared) ⌝ }
+    ensures { λ r. ⌜ r ≡ targetDiffers (ruleCount (now (s .entry))) (ruleOf (now (s .entry))) (declaredOf (now (s .entry))) (own .rule) (own .declared) ⌝ }
 {
     let rule = own.rule;
     let declared = own.declared;
@@ -365,7 +365,7 @@ fn answer_of(found: RuleCheck, i: usize) -> CheckAnswer
 
 // Refusals 31 to 39: the first rule that breaks one. A Return is looked at with every Gosub for 37 before any for 39.
 fn first_refusal(s: &[u8]) -> CheckAnswer
-    ensures { λ r. ⌜ r ≡ firstOf (ruleCheck (now (s .entry))) (count (now (s .entry))) ⌝ }
+    ensures { λ r. ⌜ r ≡ firstBroken (ruleCheck (now (s .entry))) (ruleCount (now (s .entry))) ⌝ }
 {
     let n = s.len() / 16;
     let mut i: usize = 0;

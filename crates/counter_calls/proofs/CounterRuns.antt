@@ -7,7 +7,7 @@ use mathlib.Core.List.{List, [], _∷_, _++_}
 use lib.ListN.{length, getD, set, take, drop, replicate}
 use lib.Seq.{getD-take, getD-drop}
 use Rattle.xdr.specs.Numbers.{numberAt}
-use Rattle.xdr.specs.Items.{sum, numbersAt}
+use Rattle.xdr.specs.Items.{totalWidth, numbersAt}
 use Rattle.xdr.proofs.Reading.{NumberRead}
 use Rattle.counter_data.proofs.Bodies.{widthsOf}
 use Rattle.numbers.specs.Reports.{filled, filledBehind}
@@ -29,15 +29,15 @@ behind-nothing zero d = filled-none d
 behind-nothing (suc n) [] = filled-none []
 behind-nothing (suc n) (x ∷ d) = ap (λ (r : List ℕ). x ∷ r) (behind-nothing n d)
 
--- zeros that are left to put, up to 45 numbers: none, and after one of them
-pub zeros-end : (d : List ℕ) (i : ℕ) → 45 ≤ i → filledBehind i (replicate (45 - i) 0) d ≡ d
-zeros-end d i h = let none : 45 - i ≡ 0 = omega arith in rw none (behind-nothing i d)
+-- zeros that are left to put, up to 38 numbers: none, and after one of them
+pub zeros-end : (d : List ℕ) (i : ℕ) → 38 ≤ i → filledBehind i (replicate (38 - i) 0) d ≡ d
+zeros-end d i h = let none : 38 - i ≡ 0 = omega arith in rw none (behind-nothing i d)
 
-pub zeros-step : (d e : List ℕ) (i : ℕ) → i < 45 → e ≡ filledBehind i (0 ∷ []) d
-    → filledBehind (i + 1) (replicate (45 - (i + 1)) 0) e ≡ filledBehind i (replicate (45 - i) 0) d
+pub zeros-step : (d e : List ℕ) (i : ℕ) → i < 38 → e ≡ filledBehind i (0 ∷ []) d
+    → filledBehind (i + 1) (replicate (38 - (i + 1)) 0) e ≡ filledBehind i (replicate (38 - i) 0) d
 zeros-step d e i h p =
-    let n : 45 - i ≡ suc (45 - (i + 1)) = omega arith in
-    rw (p, n) (behind-both i (0 ∷ []) (replicate (45 - (i + 1)) 0) d)
+    let n : 38 - i ≡ suc (38 - (i + 1)) = omega arith in
+    rw (p, n) (behind-both i (0 ∷ []) (replicate (38 - (i + 1)) 0) d)
 
 -- words that are left to put: all, none, and after one of them
 pub words-start : (s d : List ℕ) (first count n : ℕ)
@@ -66,14 +66,14 @@ numbers-count s at [] = refl
 numbers-count s at (w ∷ ws) = ap suc (numbers-count s (at + w) ws)
 
 -- the numbers of items, and of those behind them
-numbers-both : (s : List ℕ) (at : ℕ) (ws vs : List ℕ) → numbersAt s at (ws ++ vs) ≡ numbersAt s at ws ++ numbersAt s (at + sum ws) vs
+numbers-both : (s : List ℕ) (at : ℕ) (ws vs : List ℕ) → numbersAt s at (ws ++ vs) ≡ numbersAt s at ws ++ numbersAt s (at + totalWidth ws) vs
 unfolding numbersAt
 numbers-both s at [] vs = rw (add-zero at) refl
-numbers-both s at (w ∷ ws) vs = rw (← add-assoc at w (sum ws)) (ap (λ (r : List ℕ). numberAt s at w ∷ r) (numbers-both s (at + w) ws vs))
+numbers-both s at (w ∷ ws) vs = rw (← add-assoc at w (totalWidth ws)) (ap (λ (r : List ℕ). numberAt s at w ∷ r) (numbers-both s (at + w) ws vs))
 
 -- items put behind the first n, and then those behind them
 pub then-put : (s d m e ws vs : List ℕ) (at p n k : ℕ) → m ≡ filledBehind n (numbersAt s at ws) d → e ≡ filledBehind k (numbersAt s p vs) m
-    → p ≡ at + sum ws → k ≡ n + length ws → e ≡ filledBehind n (numbersAt s at (ws ++ vs)) d
+    → p ≡ at + totalWidth ws → k ≡ n + length ws → e ≡ filledBehind n (numbersAt s at (ws ++ vs)) d
 then-put s d m e ws vs at p n k before behind place there =
     rw (numbers-both s at ws vs, ← place)
     (behind-behind (numbersAt s at ws) (numbersAt s p vs) d m e n k (rw (numbers-count s at ws) there) before behind)
@@ -93,20 +93,20 @@ number-part s from size at (suc w) h =
     let before : at + w ≤ size = omega arith in
     rw (number-part s from size at w before, getD-take size (drop from s) (at + w) 0 within, getD-drop from s (at + w) 0, add-assoc from at w) refl
 
-numbers-part : (s : List ℕ) (from size at : ℕ) (ws : List ℕ) → at + sum ws ≤ size
+numbers-part : (s : List ℕ) (from size at : ℕ) (ws : List ℕ) → at + totalWidth ws ≤ size
     → numbersAt (take size (drop from s)) at ws ≡ numbersAt s (from + at) ws
 unfolding numbersAt
 numbers-part s from size at [] h = refl
 numbers-part s from size at (w ∷ ws) h =
     let here : at + w ≤ size = omega arith in
-    let rest : at + w + sum ws ≤ size = omega arith in
+    let rest : at + w + totalWidth ws ≤ size = omega arith in
     rw (number-part s from size at w here, numbers-part s from size (at + w) ws rest, add-assoc from at w) refl
 
 -- items put from a part are put from the whole
-pub part-put : (s d e : List ℕ) (from to n : ℕ) (ws : List ℕ) → from + sum ws ≤ to
+pub part-put : (s d e : List ℕ) (from to n : ℕ) (ws : List ℕ) → from + totalWidth ws ≤ to
     → e ≡ filledBehind n (numbersAt (take (to - from) (drop from s)) 0 ws) d → e ≡ filledBehind n (numbersAt s from ws) d
 part-put s d e from to n ws h p =
-    let within : 0 + sum ws ≤ to - from = omega arith in
+    let within : 0 + totalWidth ws ≤ to - from = omega arith in
     p ∙ rw (numbers-part s from (to - from) 0 ws within, add-zero from) refl
 
 -- ---- versions
@@ -116,14 +116,14 @@ pub count-of : (v n : ℕ) → v ≡ n → length (widthsOf n) ≡ length (width
 count-of v n e = ap (λ (m : ℕ). length (widthsOf m)) (sym e)
 
 -- the counters of the version v, which is n, are there and are put as those of the version n
-pub version-room : (v n at size : ℕ) → v ≡ n → at + sum (widthsOf v) ≤ size → at + sum (widthsOf n) ≤ size
-version-room v n at size same h = subst (λ (m : ℕ). at + sum (widthsOf m) ≤ size) same h
+pub version-room : (v n at size : ℕ) → v ≡ n → at + totalWidth (widthsOf v) ≤ size → at + totalWidth (widthsOf n) ≤ size
+version-room v n at size same h = subst (λ (m : ℕ). at + totalWidth (widthsOf m) ≤ size) same h
 
-pub version-put : (s d e : List ℕ) (at v n : ℕ) → v ≡ n → e ≡ filledBehind 8 (numbersAt s at (widthsOf n)) d
-    → e ≡ filledBehind 8 (numbersAt s at (widthsOf v)) d
-version-put s d e at v n same put = put ∙ ap (λ (m : ℕ). filledBehind 8 (numbersAt s at (widthsOf m)) d) (sym same)
+pub version-put : (s d e : List ℕ) (at v n : ℕ) → v ≡ n → e ≡ filledBehind 1 (numbersAt s at (widthsOf n)) d
+    → e ≡ filledBehind 1 (numbersAt s at (widthsOf v)) d
+version-put s d e at v n same put = put ∙ ap (λ (m : ℕ). filledBehind 1 (numbersAt s at (widthsOf m)) d) (sym same)
 
 -- no version has no counters
-pub no-version-put : (s d : List ℕ) (at : ℕ) (ws : List ℕ) → ws ≡ [] → d ≡ filledBehind 8 (numbersAt s at ws) d
+pub no-version-put : (s d : List ℕ) (at : ℕ) (ws : List ℕ) → ws ≡ [] → d ≡ filledBehind 1 (numbersAt s at ws) d
 unfolding numbersAt
-no-version-put s d at ws none = rw none (sym (behind-nothing 8 d))
+no-version-put s d at ws none = rw none (sym (behind-nothing 1 d))

@@ -7,10 +7,9 @@ use mathlib.Core.List.{List, []}
 use mathlib.Core.Bool.{true, false}
 use lib.ListN.{length}
 use borrow.Author.Tests.{ne-eqb}
-use Rattle.xdr.specs.Items.{wordAt, runAt, sum}
+use Rattle.xdr.specs.Items.{wordAt, totalWidth}
 use Rattle.xdr.specs.declared.WordRead.the-variants.{Word, CutWord}
 use Rattle.xdr.proofs.Reading.{word-read}
-use Rattle.xdr.proofs.Runs.{run-whole}
 use Rattle.sflow.specs.declared.Refusal.{Refusal}
 use Rattle.sflow.specs.declared.Refusal.the-variants.{CutItem, CountersVersion}
 use Rattle.sflow.specs.Grammar.{Form, fixed, listed, chosen}
@@ -19,9 +18,9 @@ use Rattle.sflow.specs.Datagram.{counters-versions, counters-type}
 use Rattle.sflow.proofs.Steps.{union-arm, union-bad, union-cut, fixed-end}
 use Rattle.fields.specs.declared.runs.Passed.{Passed}
 use Rattle.fields.specs.declared.runs.Passed.the-variants.{Next, Refused}
-use Rattle.fields.specs.Parts.{asPassed, asRun}
+use Rattle.fields.specs.Parts.{asPassed}
 use Rattle.fields.proofs.Passing.{passed-next, passed-refused, passed-alike}
-use Rattle.fields.proofs.Forms.{passed-run}
+use Rattle.fields.proofs.Forms.{passed-whole}
 use Rattle.counter_data.specs.CounterBodies.{counterBodyOf}
 
 -- ---- versions
@@ -76,21 +75,19 @@ version-over v h =
 -- ---- runs
 
 -- the octets of the counters of the version n are those of the version v, which is n
-pub size-of : (v n : ℕ) → v ≡ n → sum (widthsOf n) ≡ sum (widthsOf v)
-size-of v n e = ap (λ (m : ℕ). sum (widthsOf m)) (sym e)
+pub size-of : (v n : ℕ) → v ≡ n → totalWidth (widthsOf n) ≡ totalWidth (widthsOf v)
+size-of v n e = ap (λ (m : ℕ). totalWidth (widthsOf m)) (sym e)
 
 -- a run of the widths of the version n passes over the counters of the version v, which is n
-pub body-run : (s : List ℕ) (at size v n : ℕ) (r : Passed) → v ≡ n → size ≡ sum (widthsOf v) → r ≡ asRun (runAt s at size (widthsOf n))
-    → r ≡ asPassed (decode (formOf v) s at)
-body-run s at size v n r e t f =
-    sym (passed-run s at size (widthsOf v) r t (ap (λ (m : ℕ). asRun (runAt s at size (widthsOf m))) e ∙ sym f))
+pub body-run : (s : List ℕ) (at v n : ℕ) (r : Passed) → v ≡ n → r ≡ asPassed (decode (formOf n) s at) → r ≡ asPassed (decode (formOf v) s at)
+body-run s at v n r e f = f ∙ ap (λ (m : ℕ). asPassed (decode (formOf m) s at)) (sym e)
 
 -- counters whose octets are all there
-pub body-there : (s : List ℕ) (at size v : ℕ) → size ≡ sum (widthsOf v) → at ≤ length s → size ≤ length s - at
+pub body-there : (s : List ℕ) (at size v : ℕ) → size ≡ totalWidth (widthsOf v) → at ≤ length s → size ≤ length s - at
     → Next (at + size) ≡ asPassed (decode (formOf v) s at)
-body-there s at size v t h k =
-    let room : at + size ≤ length s = omega arith in
-    sym (passed-run s at size (widthsOf v) (Next (at + size)) t (ap asRun (run-whole s at size (widthsOf v) room)))
+body-there s at size v z h k =
+    let room : at + totalWidth (widthsOf v) ≤ length s = omega (arith, z) in
+    rw z (sym (passed-whole s at (widthsOf v) room))
 
 -- no counters, nothing to pass over
 pub body-none : (s : List ℕ) (at : ℕ) (ws : List ℕ) → ws ≡ [] → Next at ≡ asPassed (decode (fixed ws) s at)

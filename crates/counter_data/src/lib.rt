@@ -1,19 +1,15 @@
 // Counters of a counter sample.
 use fields::runs::Passed;
 use sflow::Refusal;
-use xdr::HyperRead;
 use xdr::WordRead;
 ghost use mathlib.Core.Path.{_≡_};
 ghost use mathlib.Core.List.{[]};
-ghost use Prim.Native.Nat.{_≤_};
-ghost use lib.Dec.{T};
-ghost use lib.ListN.{length};
-ghost use Rattle.xdr.specs.Items.{sum};
+ghost use Rattle.xdr.specs.Items.{totalWidth};
 ghost use Rattle.sflow.specs.Grammar.{fixed, chosen};
 ghost use Rattle.sflow.specs.Decode.{decode, mapped};
 ghost use Rattle.sflow.specs.Datagram.{counters-versions, counters-type};
 ghost use Rattle.fields.specs.Parts.{asPassed};
-ghost use Rattle.counter_data.specs.CounterBodies.{counterBodyOf, asCounterBody, ofVersion, counterValuesOf, noValues, counterAt, wordsAndHypers};
+ghost use Rattle.counter_data.specs.CounterBodies.{counterBodyOf, asCounterBody};
 
 // A counters version, 1 to 7, and the offset of the first counter.
 pub struct CounterBody {
@@ -43,7 +39,7 @@ pub const VLAN_WIDTHS: [u8; 6] = *b"\x04\x08\x04\x04\x04\x04";
 
 // How many octets the counters of a version take: none where it is no version.
 pub fn body_size(version: u32) -> usize
-    ensures { λ r. ⌜ r ≡ sum (chosen [] counters-versions version) ⌝ }
+    ensures { λ r. ⌜ r ≡ totalWidth (chosen [] counters-versions version) ⌝ }
 {
     match version {
         1 | 4 | 6 => 88,
@@ -56,16 +52,15 @@ pub fn body_size(version: u32) -> usize
 }
 
 // The counters of a version by their widths, for the place where they are cut short.
-fn pass_each(s: &[u8], at: usize, version: u32, size: usize) -> Passed
-    requires { ⌜ size ≡ sum (chosen [] counters-versions version) ⌝ }
+fn pass_each(s: &[u8], at: usize, version: u32) -> Passed
     ensures { λ r. ⌜ r ≡ asPassed (decode (fixed (chosen [] counters-versions version)) (now (s .entry)) at) ⌝ }
 {
     match version {
-        1 | 4 | 6 => fields::runs::pass_run(s, at, size, &IF_WIDTHS),
-        2 => fields::runs::pass_run(s, at, size, &ETHERNET_WIDTHS),
-        3 => fields::runs::pass_run(s, at, size, &TOKENRING_WIDTHS),
-        5 => fields::runs::pass_run(s, at, size, &VG_WIDTHS),
-        7 => fields::runs::pass_run(s, at, size, &VLAN_WIDTHS),
+        1 | 4 | 6 => fields::runs::pass_run(s, at, &IF_WIDTHS),
+        2 => fields::runs::pass_run(s, at, &ETHERNET_WIDTHS),
+        3 => fields::runs::pass_run(s, at, &TOKENRING_WIDTHS),
+        5 => fields::runs::pass_run(s, at, &VG_WIDTHS),
+        7 => fields::runs::pass_run(s, at, &VLAN_WIDTHS),
         _ => Passed::Next(at),
     }
 }
@@ -76,10 +71,10 @@ fn pass_body(s: &[u8], at: usize, version: u32) -> Passed
 {
     let size = body_size(version);
     if s.len() < at {
-        return pass_each(s, at, version, size);
+        return pass_each(s, at, version);
     }
     if s.len() - at < size {
-        return pass_each(s, at, version, size);
+        return pass_each(s, at, version);
     }
     Passed::Next(at + size)
 }
@@ -117,83 +112,4 @@ pub fn pass_counters(s: &[u8], at: usize) -> Passed
         return Passed::Refused(Refusal::CountersVersion, at);
     }
     pass_body(s, first, version)
-}
-
-// How many counters were found, of which version.
-pub struct CounterCount {
-    pub version: u32,
-    pub count: usize,
-}
-
-pub enum CounterAnswer {
-    Found(CounterCount, usize),
-    Refused(Refusal, usize),
-}
-
-// The counters in the RFC's order, zeros behind them; all zero with a refusal.
-pub struct CounterValues {
-    pub answer: CounterAnswer,
-    pub numbers: [u64; 37],
-}
-
-// A refusal, and no counters.
-fn no_values(why: Refusal, p: usize) -> CounterValues
-    ensures { λ r. ⌜ r ≡ noValues why p ⌝ }
-{
-    CounterValues {
-        answer: CounterAnswer::Refused(why, p),
-        numbers: [0; 37],
-    }
-}
-
-// A counter of a width: a hyper where it is 8, and a word otherwise.
-fn read_counter(s: &[u8], at: usize, width: u8) -> HyperRead
-    ensures { λ r. ⌜ r ≡ counterAt (now (s .entry)) at width ⌝ }
-{
-    if width == 8 {
-        return xdr::read_hyper(s, at);
-    }
-    let WordRead::Word(v, next) = xdr::read_word(s, at) else {
-        return HyperRead::CutHyper(at);
-    };
-    HyperRead::Hyper(v as u64, next)
-}
-
-// The counters of a version, by their widths.
-fn read_values(s: &[u8], first: usize, version: u32, widths: &[u8]) -> CounterValues
-    requires { ⌜ (length (now widths) ≤ 37) × T (wordsAndHypers (now widths)) ⌝ }
-    ensures { λ r. ⌜ r ≡ counterValuesOf (mapped (ofVersion version) (decode (fixed (now (widths .entry))) (now (s .entry)) first)) ⌝ }
-{
-    let mut numbers: [u64; 37] = [0; 37];
-    let mut at = first;
-    let mut i = 0;
-    while i < widths.len() {
-        let HyperRead::Hyper(v, next) = read_counter(s, at, widths[i]) else {
-            return no_values(Refusal::CutItem, at);
-        };
-        numbers[i] = v;
-        at = next;
-        i += 1;
-    }
-    CounterValues {
-        answer: CounterAnswer::Found(CounterCount { version, count: i }, at),
-        numbers,
-    }
-}
-
-// Every counter of a body, at its version word.
-pub fn read_counter_values(s: &[u8], at: usize) -> CounterValues
-    ensures { λ r. ⌜ r ≡ counterValuesOf (decode counters-type (now (s .entry)) at) ⌝ }
-{
-    let WordRead::Word(version, first) = xdr::read_word(s, at) else {
-        return no_values(Refusal::CutItem, at);
-    };
-    match version {
-        1 | 4 | 6 => read_values(s, first, version, &IF_WIDTHS),
-        2 => read_values(s, first, version, &ETHERNET_WIDTHS),
-        3 => read_values(s, first, version, &TOKENRING_WIDTHS),
-        5 => read_values(s, first, version, &VG_WIDTHS),
-        7 => read_values(s, first, version, &VLAN_WIDTHS),
-        _ => no_values(Refusal::CountersVersion, at),
-    }
 }

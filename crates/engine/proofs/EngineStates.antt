@@ -13,12 +13,14 @@ use borrow.Author.Tests.{lt-ltb, le-ltb, le-leb, eq-eqb, ne-eqb}
 use Rattle.rules.specs.declared.Rule.{Rule}
 use Rattle.rules.specs.declared.Action.{Action}
 use Rattle.rules.specs.declared.Action.the-variants.{Unknown, Ignore, NoMatch, Count, CountPkt, Return, Gosub, Goto, PushRule, PushPkt, PopTo}
-use Rattle.rules.specs.Opcodes.{actionOf}
+use Rattle.rules.specs.declared.MachineAnswer.{MachineAnswer}
+use Rattle.rules.specs.declared.MachineAnswer.the-variants as answer
+use Rattle.rules.specs.Opcodes.{actionOf, machineNumber}
 use Rattle.rules.specs.Machine.{Outcome, ended, passes, ruleItem, packetItem, goes, act, fails, step}
 use Rattle.rules.specs.Room.{Room}
 use Rattle.rules.proofs.Bits.{masked-is}
 use Rattle.engine.specs.declared.EngineState.{EngineState}
-use Rattle.engine.specs.EngineStates.{stackOf, queuesPacket, itemOf, queued, stateOf, outcomeOf, goesOf, finishesOf, actedOf, failedOf, Running, Live}
+use Rattle.engine.specs.EngineStates.{stackOf, answerOf, queuesPacket, itemOf, queued, stateOf, outcomeOf, goesOf, finishesOf, actedOf, failedOf, Running, Live}
 
 -- ---- stacks of numbers
 
@@ -34,6 +36,15 @@ stack-push l d x h = rw add-one (rw (getD-set-same l d x 0 h, stack-set l d x d 
 pub stack-pop : (l : List ℕ) (d : ℕ) → 1 ≤ d → stackOf l d ≡ getD l (d - 1) 0 ∷ stackOf l (d - 1)
 stack-pop l zero h = absurd (omega arith)
 stack-pop l (suc d) h = let e : suc d - 1 ≡ d = omega arith in rw e refl
+
+-- ---- answers
+
+-- no two answers are held by the same number
+pub held-answer : (a : MachineAnswer) → answerOf (machineNumber a) ≡ a
+held-answer answer.Ignore = refl
+held-answer answer.NoMatch = refl
+held-answer answer.Count = refl
+held-answer answer.CountPkt = refl
 
 -- ---- tests
 
@@ -90,8 +101,8 @@ module _ (rule : ℕ → Rule) (at : ℕ → ℕ) (m : EngineState) (h : Running
   unfolding failedOf fails
   failed n = go (ltb (m .number) n)
     where
-      go : (b : Bool) → outcomeOf rule at (cond b (goesOf m (m .number + 1) true) (finishesOf m 2))
-          ≡ cond b (goes (m .number + 1) true (stackOf (m .calls) (m .depth)) (queued rule at m) (m .rules + 1)) (ended 2 [] (m .rules + 1))
+      go : (b : Bool) → outcomeOf rule at (cond b (goesOf m (m .number + 1) true) (finishesOf m answer.NoMatch))
+          ≡ cond b (goes (m .number + 1) true (stackOf (m .calls) (m .depth)) (queued rule at m) (m .rules + 1)) (ended answer.NoMatch [] (m .rules + 1))
       go true = rw (h .answer)
       go false = refl
 
@@ -118,6 +129,6 @@ module _ (n : ℕ) (m : EngineState) where
   unfolding failedOf
   goes-next h = rw (lt-ltb (m .number) n h)
 
-  pub ends-last : n ≤ m .number → finishesOf m 2 ≡ failedOf n m
+  pub ends-last : n ≤ m .number → finishesOf m answer.NoMatch ≡ failedOf n m
   unfolding failedOf
   ends-last h = rw (le-ltb (m .number) n h)

@@ -10,8 +10,8 @@ use Rattle.rules.specs.declared.CheckAnswer.the-variants.{Accepted}
 use Rattle.rules.specs.declared.Action.{Action}
 use Rattle.rules.specs.declared.Action.the-variants.{Return}
 use Rattle.rules.specs.Opcodes.{actionOf}
-use Rattle.rules.specs.Records.{count, ruleOf, declaredOf}
-use Rattle.rules.specs.Machine.{State, Outcome, running, ended, stuck, step, advance, after}
+use Rattle.rules.specs.Records.{ruleCount, ruleOf, declaredOf}
+use Rattle.rules.specs.Machine.{MachineState, Outcome, running, ended, stuck, step, advance, after}
 use Rattle.rules.specs.Room.{Room}
 use Rattle.rules.specs.Checks.{check}
 use Rattle.rules.specs.Demand.{bound, WithinLimits}
@@ -21,8 +21,9 @@ use Rattle.rules.proofs.Accepted.{accepted-set}
 use Rattle.rules.proofs.Demand.{all-sound, all-act, reach, demand-3, stays-later}
 use Rattle.engine.specs.declared.EngineState.{EngineState}
 use Rattle.engine.specs.declared.EngineResult.{EngineResult}
-use Rattle.engine.specs.EngineStates.{stackOf, itemOf, queued, stateOf, told, outcomeOf, Live}
-use Rattle.engine.specs.Results.{answerOf, keyOf, resultOf}
+use Rattle.engine.specs.declared.EngineAnswer.the-variants.{Ended}
+use Rattle.engine.specs.EngineStates.{stackOf, itemOf, queued, stateOf, answerOf, outcomeBy, outcomeOf, Live}
+use Rattle.engine.specs.Results.{keyOf, resultOf}
 use Rattle.engine.proofs.EngineStates.{stack-pop}
 
 stack-length : (l : List ℕ) (d : ℕ) → length (stackOf l d) ≡ d
@@ -38,20 +39,20 @@ rulesOf (running s) = s .rules
 rulesOf (ended a items k) = k
 rulesOf stuck = 0
 
-told-rules : (a : ℕ) (s : State) → rulesOf (told a s) ≡ s .rules
+told-rules : (a : ℕ) (s : MachineState) → rulesOf (outcomeBy a s) ≡ s .rules
 told-rules zero s = refl
 told-rules (suc a) s = refl
 
-module _ (s : List ℕ) (e : check s ≡ Accepted) (at : ℕ → ℕ) (m : EngineState) (f : outcomeOf (ruleOf s) at m ≡ after (count s) (ruleOf s) at (m .rules)) where
+module _ (s : List ℕ) (e : check s ≡ Accepted) (at : ℕ → ℕ) (m : EngineState) (f : outcomeOf (ruleOf s) at m ≡ after (ruleCount s) (ruleOf s) at (m .rules)) where
   abbrev n : ℕ
-  n = count s
+  n = ruleCount s
 
   at-hand : Reached n (ruleOf s) (declaredOf s) (m .rules) (outcomeOf (ruleOf s) at m)
   at-hand = rw f (reach s e at (m .rules))
 
   module _ (z : m .answer ≡ 0) where
     runs : Reached n (ruleOf s) (declaredOf s) (m .rules) (running (stateOf (ruleOf s) at m))
-    runs = subst (λ (a : ℕ). Reached n (ruleOf s) (declaredOf s) (m .rules) (told a (stateOf (ruleOf s) at m))) z at-hand
+    runs = subst (λ (a : ℕ). Reached n (ruleOf s) (declaredOf s) (m .rules) (outcomeBy a (stateOf (ruleOf s) at m))) z at-hand
 
     pub more : m .rules < bound n
     more = omega (arith, runs .1, left-pos n (m .number) (stackOf (m .calls) (m .depth)) (runs .0 .high))
@@ -107,7 +108,7 @@ module _ (s : List ℕ) (e : check s ≡ Accepted) (at : ℕ → ℕ) (m : Engin
       pub stepped : outcomeOf (ruleOf s) at x ≡ after n (ruleOf s) at (x .rules)
       unfolding after advance
       stepped =
-          let w : after n (ruleOf s) at (m .rules) ≡ running (stateOf (ruleOf s) at m) = sym f ∙ ap (λ (a : ℕ). told a (stateOf (ruleOf s) at m)) z in
+          let w : after n (ruleOf s) at (m .rules) ≡ running (stateOf (ruleOf s) at m) = sym f ∙ ap (λ (a : ℕ). outcomeBy a (stateOf (ruleOf s) at m)) z in
           let q : after n (ruleOf s) at (suc (m .rules)) ≡ step n (ruleOf s) at (stateOf (ruleOf s) at m) = rw w refl in
           h ∙ sym (ap (after n (ruleOf s) at) (stepped-rules ∙ add-one (m .rules)) ∙ q)
 
@@ -118,17 +119,17 @@ module _ (s : List ℕ) (e : check s ≡ Accepted) (at : ℕ → ℕ) (m : Engin
       go : (a : ℕ) → m .answer ≡ a → outcomeOf (ruleOf s) at m ≡ after n (ruleOf s) at (bound n)
       go zero y = absurd (z y)
       go (suc a) y =
-          let w : outcomeOf (ruleOf s) at m ≡ ended (suc a) (queued (ruleOf s) at m) (m .rules) = ap (λ (b : ℕ). told b (stateOf (ruleOf s) at m)) y in
+          let w : outcomeOf (ruleOf s) at m ≡ ended (answerOf (suc a)) (queued (ruleOf s) at m) (m .rules) = ap (λ (b : ℕ). outcomeBy b (stateOf (ruleOf s) at m)) y in
           let r : m .rules ≤ bound n = (subst (λ (o : Outcome). Reached n (ruleOf s) (declaredOf s) (m .rules) o) w at-hand) .2 in
-          w ∙ sym (stays-later n (ruleOf s) at (m .rules) (bound n) (suc a) (m .rules) (queued (ruleOf s) at m) r (sym f ∙ w))
+          w ∙ sym (stays-later n (ruleOf s) at (m .rules) (bound n) (answerOf (suc a)) (m .rules) (queued (ruleOf s) at m) r (sym f ∙ w))
 
 -- ---- the state at the machine's end
 
-module _ (s : List ℕ) (e : check s ≡ Accepted) (at : ℕ → ℕ) (m : EngineState) (f : outcomeOf (ruleOf s) at m ≡ after (count s) (ruleOf s) at (bound (count s))) where
+module _ (s : List ℕ) (e : check s ≡ Accepted) (at : ℕ → ℕ) (m : EngineState) (f : outcomeOf (ruleOf s) at m ≡ after (ruleCount s) (ruleOf s) at (bound (ruleCount s))) where
   answered : (m .answer ≡ 0 → ⊥)
   answered z =
       let d = demand-3 s e at .ends in
-      let w : running (stateOf (ruleOf s) at m) ≡ ended (d .answer) (d .items) (d .rules) = sym (ap (λ (a : ℕ). told a (stateOf (ruleOf s) at m)) z) ∙ f ∙ d .ended-so in
+      let w : running (stateOf (ruleOf s) at m) ≡ ended (d .answer) (d .items) (d .rules) = sym (ap (λ (a : ℕ). outcomeBy a (stateOf (ruleOf s) at m)) z) ∙ f ∙ d .ended-so in
       let y : _≡_ {A = ℕ} 0 1 = cc in
       omega arith
 
@@ -138,15 +139,15 @@ module _ (s : List ℕ) (e : check s ≡ Accepted) (at : ℕ → ℕ) (m : Engin
       go : (a : ℕ) → m .answer ≡ a → m .held ≤ 16
       go zero z = absurd (answered z)
       go (suc a) z =
-          let w : WithinLimits (count s) (outcomeOf (ruleOf s) at m) = rw f (demand-3 s e at .always (bound (count s))) in
-          let k = subst (λ (b : ℕ). WithinLimits (count s) (told b (stateOf (ruleOf s) at m))) z w in
+          let w : WithinLimits (bound (ruleCount s)) (outcomeOf (ruleOf s) at m) = rw f (demand-3 s e at .always (bound (ruleCount s))) in
+          let k = subst (λ (b : ℕ). WithinLimits (bound (ruleCount s)) (outcomeBy b (stateOf (ruleOf s) at m))) z w in
           let q : length (queued (ruleOf s) at m) ≡ m .held = length-map (stackOf (m .queue) (m .held)) (itemOf (ruleOf s) at) ∙ stack-length (m .queue) (m .held) in
           omega (arith, k .0, q)
 
-  pub final-result : record { answer = answerOf (m .answer); key = keyOf (queued (ruleOf s) at m); rules = m .rules } ≡ resultOf (after (count s) (ruleOf s) at (bound (count s)))
+  pub final-result : record { answer = Ended (answerOf (m .answer)); key = keyOf (queued (ruleOf s) at m); rules = m .rules } ≡ resultOf (after (ruleCount s) (ruleOf s) at (bound (ruleCount s)))
   final-result = go (m .answer) refl ∙ ap resultOf f
     where
       go : (a : ℕ) → m .answer ≡ a
-          → _≡_ {A = EngineResult} (record { answer = answerOf (m .answer); key = keyOf (queued (ruleOf s) at m); rules = m .rules }) (resultOf (outcomeOf (ruleOf s) at m))
+          → _≡_ {A = EngineResult} (record { answer = Ended (answerOf (m .answer)); key = keyOf (queued (ruleOf s) at m); rules = m .rules }) (resultOf (outcomeOf (ruleOf s) at m))
       go zero z = absurd (answered z)
       go (suc a) z = rw z refl

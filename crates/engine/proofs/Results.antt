@@ -17,15 +17,15 @@ use Rattle.packet.specs.declared.Attributes.{Attributes}
 use Rattle.packet.specs.Attributes.{attributesOf, attribute}
 use Rattle.rules.specs.declared.CheckRefusal.{CheckRefusal}
 use Rattle.rules.specs.declared.CheckAnswer.the-variants.{Accepted, Refused as RefusedSet}
-use Rattle.rules.specs.Records.{count, ruleOf}
+use Rattle.rules.specs.Records.{ruleCount, ruleOf}
 use Rattle.rules.specs.Machine.{after}
 use Rattle.rules.specs.Checks.{check}
 use Rattle.rules.specs.Demand.{bound}
 use Rattle.engine.specs.declared.EngineState.{EngineState}
 use Rattle.engine.specs.declared.EngineResult.{EngineResult}
-use Rattle.engine.specs.declared.EngineAnswer.the-variants.{Refused}
-use Rattle.engine.specs.EngineStates.{queued, outcomeOf}
-use Rattle.engine.specs.Results.{answerOf, keyOf, refusal, resultOf, flow, other, flowIn, ofSample, engineOf}
+use Rattle.engine.specs.declared.EngineAnswer.the-variants.{Ended, Refused}
+use Rattle.engine.specs.EngineStates.{queued, answerOf, outcomeOf}
+use Rattle.engine.specs.Results.{keyOf, refusal, resultOf, flow, other, flowIn, ofSample, engineOf}
 use Rattle.engine.proofs.Follows.{final-result}
 
 -- ---- octets that are exactly one flow sample
@@ -51,13 +51,13 @@ module _ (x : List ℕ) where
 -- ---- a run
 
 module _ (s x : List ℕ) (f : FlowSample) (a : Attributes) (e : a ≡ attributesOf x f) (ok : check s ≡ Accepted) (m : EngineState)
-    (w : outcomeOf (ruleOf s) (attribute a) m ≡ after (count s) (ruleOf s) (attribute a) (bound (count s))) where
-  pub flow-result : (r : EngineResult) → r .answer ≡ answerOf (m .answer) → r .key ≡ keyOf (queued (ruleOf s) (attribute a) m) → r .rules ≡ m .rules
+    (w : outcomeOf (ruleOf s) (attribute a) m ≡ after (ruleCount s) (ruleOf s) (attribute a) (bound (ruleCount s))) where
+  pub flow-result : (r : EngineResult) → r .answer ≡ Ended (answerOf (m .answer)) → r .key ≡ keyOf (queued (ruleOf s) (attribute a) m) → r .rules ≡ m .rules
       → r ≡ ofSample s x (flow f)
   flow-result r p q t =
       (λ i. record { answer = p i; key = q i; rules = t i })
       ∙ final-result s ok (attribute a) m w
-      ∙ ap (λ (b : Attributes). resultOf (after (count s) (ruleOf s) (attribute b) (bound (count s)))) e
+      ∙ ap (λ (b : Attributes). resultOf (after (ruleCount s) (ruleOf s) (attribute b) (bound (ruleCount s)))) e
 
 -- ---- the whole
 

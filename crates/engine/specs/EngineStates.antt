@@ -4,13 +4,15 @@ use mathlib.Core.Path.{_≡_}
 use mathlib.Core.List.{List, [], _∷_, map}
 use mathlib.Core.Bool.{Bool, true, false, cond}
 use lib.ListN.{length, getD, set, replicate}
-use lib.Dec.{ltb}
+use lib.Dec.{ltb, eqb}
 use Rattle.rules.specs.declared.Item.{Item}
 use Rattle.rules.specs.declared.Rule.{Rule}
 use Rattle.rules.specs.declared.Action.{Action}
 use Rattle.rules.specs.declared.Action.the-variants.{Unknown, Ignore, NoMatch, Count, CountPkt, Return, Gosub, Goto, PushRule, PushPkt, PopTo}
-use Rattle.rules.specs.Opcodes.{actionOf}
-use Rattle.rules.specs.Machine.{State, Outcome, running, ended, ruleItem, packetItem}
+use Rattle.rules.specs.declared.MachineAnswer.{MachineAnswer}
+use Rattle.rules.specs.declared.MachineAnswer.the-variants as answer
+use Rattle.rules.specs.Opcodes.{actionOf, machineNumber}
+use Rattle.rules.specs.Machine.{MachineState, Outcome, running, ended, ruleItem, packetItem}
 use Rattle.rules.specs.Room.{Room}
 use Rattle.engine.specs.declared.EngineState.{EngineState}
 
@@ -40,20 +42,24 @@ itemOf rule at i = cond (queuesPacket (actionOf (rule i .opcode))) (packetItem (
 abbrev pub queued : (ℕ → Rule) → (ℕ → ℕ) → EngineState → List Item
 queued rule at m = map (itemOf rule at) (stackOf (m .queue) (m .held))
 
-abbrev pub stateOf : (ℕ → Rule) → (ℕ → ℕ) → EngineState → State
+abbrev pub stateOf : (ℕ → Rule) → (ℕ → ℕ) → EngineState → MachineState
 stateOf rule at m =
     record { number = m .number; testing = m .testing; calls = stackOf (m .calls) (m .depth); items = queued rule at m; rules = m .rules }
 
+-- the answer that a state holds by its number
+abbrev pub answerOf : ℕ → MachineAnswer
+answerOf a = cond (eqb a 1) answer.Ignore (cond (eqb a 2) answer.NoMatch (cond (eqb a 3) answer.Count answer.CountPkt))
+
 -- an answer of 0 is a machine that runs
-abbrev pub told : ℕ → State → Outcome
-told zero s = running s
-told (suc a) s = ended (suc a) (s .items) (s .rules)
+abbrev pub outcomeBy : ℕ → MachineState → Outcome
+outcomeBy zero s = running s
+outcomeBy (suc a) s = ended (answerOf (suc a)) (s .items) (s .rules)
 
 abbrev pub outcomeOf : (ℕ → Rule) → (ℕ → ℕ) → EngineState → Outcome
-outcomeOf rule at m = told (m .answer) (stateOf rule at m)
+outcomeOf rule at m = outcomeBy (m .answer) (stateOf rule at m)
 
-abbrev pub started : EngineState
-started =
+abbrev pub initialState : EngineState
+initialState =
     record { number = 1; testing = true; calls = replicate 4 0; depth = 0; queue = replicate 16 0; held = 0; rules = 0; answer = 0 }
 
 -- ---- the steps of the state, as the code makes them
@@ -123,7 +129,7 @@ comesBackOf m p =
       answer = m .answer;
     }
 
-abbrev pub finishesOf : EngineState → ℕ → EngineState
+abbrev pub finishesOf : EngineState → MachineAnswer → EngineState
 finishesOf m a =
     record {
       number = m .number;
@@ -133,10 +139,10 @@ finishesOf m a =
       queue = m .queue;
       held = 0;
       rules = m .rules + 1;
-      answer = a;
+      answer = machineNumber a;
     }
 
-abbrev pub countsOf : EngineState → ℕ → EngineState
+abbrev pub countsOf : EngineState → MachineAnswer → EngineState
 countsOf m a =
     record {
       number = m .number;
@@ -146,16 +152,16 @@ countsOf m a =
       queue = set (m .queue) (m .held) (m .number);
       held = m .held + 1;
       rules = m .rules + 1;
-      answer = a;
+      answer = machineNumber a;
     }
 
 -- what an action with a parameter makes of the state
 unfoldable pub actedOf : Action → ℕ → EngineState → EngineState
 actedOf Unknown p m = m
-actedOf Ignore p m = finishesOf m 1
-actedOf NoMatch p m = finishesOf m 2
-actedOf Count p m = countsOf m 3
-actedOf CountPkt p m = countsOf m 4
+actedOf Ignore p m = finishesOf m answer.Ignore
+actedOf NoMatch p m = finishesOf m answer.NoMatch
+actedOf Count p m = countsOf m answer.Count
+actedOf CountPkt p m = countsOf m answer.CountPkt
 actedOf Return p m = comesBackOf m p
 actedOf (Gosub t) p m = callsOf m p t
 actedOf (Goto t) p m = goesOf m p t
@@ -165,7 +171,7 @@ actedOf (PopTo t) p m = popsOf m p t
 
 -- what a failed test makes of it, of n rules
 unfoldable pub failedOf : ℕ → EngineState → EngineState
-failedOf n m = cond (ltb (m .number) n) (goesOf m (m .number + 1) true) (finishesOf m 2)
+failedOf n m = cond (ltb (m .number) n) (goesOf m (m .number + 1) true) (finishesOf m answer.NoMatch)
 
 -- ---- what holds while it runs
 

@@ -16,29 +16,24 @@ use Rattle.packet.specs.Attributes.{attributesOf, attribute}
 use Rattle.rules.specs.declared.Item.{Item}
 use Rattle.rules.specs.declared.CheckAnswer.{CheckAnswer}
 use Rattle.rules.specs.declared.CheckAnswer.the-variants.{Accepted, Refused as RefusedSet}
-use Rattle.rules.specs.Records.{count, ruleOf}
+use Rattle.rules.specs.Opcodes.{machineNumber}
+use Rattle.rules.specs.Records.{ruleCount, ruleOf}
 use Rattle.rules.specs.Machine.{Outcome, running, ended, stuck, after}
-use Rattle.rules.specs.Checks.{refusalNumber, check}
+use Rattle.rules.specs.Checks.{checkNumber, check}
 use Rattle.rules.specs.Demand.{bound}
 use Rattle.engine.specs.declared.FlowKey.{FlowKey}
 use Rattle.engine.specs.declared.EngineAnswer.{EngineAnswer}
-use Rattle.engine.specs.declared.EngineAnswer.the-variants.{Ignore, NoMatch, Count, CountPkt, NotOneFlowSample, Refused}
+use Rattle.engine.specs.declared.EngineAnswer.the-variants.{Ended, NotOneFlowSample, Refused}
 use Rattle.engine.specs.declared.EngineResult.{EngineResult}
 
 -- the number of each answer and refusal, and the rule that is named
-abbrev pub answerNumber : EngineAnswer → ℕ
-answerNumber Ignore = 1
-answerNumber NoMatch = 2
-answerNumber Count = 3
-answerNumber CountPkt = 4
-answerNumber NotOneFlowSample = 18
-answerNumber (Refused why i) = refusalNumber why
+abbrev pub engineNumber : EngineAnswer → ℕ
+engineNumber (Ended a) = machineNumber a
+engineNumber NotOneFlowSample = 18
+engineNumber (Refused why i) = checkNumber why
 
 abbrev pub ruleNamed : EngineAnswer → ℕ
-ruleNamed Ignore = 0
-ruleNamed NoMatch = 0
-ruleNamed Count = 0
-ruleNamed CountPkt = 0
+ruleNamed (Ended a) = 0
 ruleNamed NotOneFlowSample = 0
 ruleNamed (Refused why i) = i
 
@@ -60,16 +55,13 @@ keyOf (x ∷ older) = put (keyOf older) x
 
 -- ---- the result
 
-abbrev pub answerOf : ℕ → EngineAnswer
-answerOf a = cond (eqb a 1) Ignore (cond (eqb a 2) NoMatch (cond (eqb a 3) Count CountPkt))
-
 -- a refusal has a key of zeros and no rules
 abbrev pub refusal : EngineAnswer → EngineResult
 refusal answer = record { answer = answer; key = zeroKey; rules = 0 }
 
 -- what the machine has ended in; of an accepted rule set it does end (`ends-there`)
 abbrev pub resultOf : Outcome → EngineResult
-resultOf (ended a items k) = record { answer = answerOf a; key = keyOf items; rules = k }
+resultOf (ended a items k) = record { answer = Ended a; key = keyOf items; rules = k }
 resultOf (running s) = refusal NotOneFlowSample
 resultOf stuck = refusal NotOneFlowSample
 
@@ -90,7 +82,7 @@ unfoldable pub flowIn : List ℕ → Sampled
 flowIn x = exactly (length x) (asSample 0 (mapped (sampleOf 0) (decode sample-type x 0)))
 
 abbrev pub ofSample : List ℕ → List ℕ → Sampled → EngineResult
-ofSample s x (flow f) = resultOf (after (count s) (ruleOf s) (attribute (attributesOf x f)) (bound (count s)))
+ofSample s x (flow f) = resultOf (after (ruleCount s) (ruleOf s) (attribute (attributesOf x f)) (bound (ruleCount s)))
 ofSample s x other = refusal NotOneFlowSample
 
 abbrev pub ofCheck : List ℕ → List ℕ → CheckAnswer → EngineResult

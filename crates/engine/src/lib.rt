@@ -9,6 +9,7 @@ use rules::Action;
 use rules::CheckAnswer;
 use rules::CheckRefusal;
 use rules::Item;
+use rules::MachineAnswer;
 use rules::Rule;
 ghost use mathlib.Core.Path.{_≡_};
 ghost use Prim.Native.Nat.{_+_, _-_, _^_, _≤_, _<_};
@@ -17,15 +18,16 @@ ghost use mathlib.Core.Bool.{not, _&&_};
 ghost use Rattle.packet.specs.Attributes.{attribute};
 ghost use Rattle.rules.specs.declared.CheckAnswer.the-variants.{Accepted};
 ghost use Rattle.rules.specs.declared.Action.the-variants.{Return};
-ghost use Rattle.rules.specs.Records.{count, ruleOf};
+ghost use Rattle.rules.specs.Records.{ruleCount, ruleOf};
 ghost use Rattle.rules.specs.Machine.{passes, step, after};
 ghost use Rattle.rules.specs.Room.{Room};
 ghost use Rattle.rules.specs.Checks.{check};
 ghost use Rattle.rules.specs.Demand.{bound};
-ghost use Rattle.engine.specs.EngineStates.{Running, Live, started, goesOf, callsOf, pushesOf, popsOf, comesBackOf, finishesOf, countsOf, actedOf, failedOf, queuesPacket, itemOf, stateOf, outcomeOf, queued};
-ghost use Rattle.engine.specs.Results.{answerNumber, zeroKey, put, keyOf, answerOf, refusal, flow, flowIn, ofSample, engineOf};
+ghost use Rattle.engine.specs.EngineStates.{Running, Live, initialState, goesOf, callsOf, pushesOf, popsOf, comesBackOf, finishesOf, countsOf, actedOf, failedOf, answerOf, queuesPacket, itemOf, stateOf, outcomeOf, queued};
+ghost use Rattle.engine.specs.Results.{engineNumber, zeroKey, put, keyOf, refusal, flow, flowIn, ofSample, engineOf};
 
-// The machine's state: the return stack and the pattern queue hold rule numbers, the newest last. The answer is 0 while it runs.
+// The machine's state: the return stack and the pattern queue hold rule numbers, the newest last. The answer is 0 while it runs, then the
+// number of the machine's.
 struct EngineState {
     number: usize,
     testing: bool,
@@ -34,7 +36,7 @@ struct EngineState {
     queue: [u16; 16],
     held: usize,
     rules: u64,
-    answer: u8,
+    answer: u32,
 }
 
 // A mask and a value at each attribute's number.
@@ -44,10 +46,8 @@ pub struct FlowKey {
 }
 
 pub enum EngineAnswer {
-    Ignore,
-    NoMatch,
-    Count,
-    CountPkt,
+    // the machine's answer
+    Ended(MachineAnswer),
     // the octets are not exactly one flow sample
     NotOneFlowSample,
     // the check refuses the rule set, at a rule
@@ -63,13 +63,10 @@ pub struct EngineResult {
 
 // Document 01's number of an answer: 1 to 4, 18, or the check's.
 pub fn answer_number(answer: EngineAnswer) -> u32
-    ensures { λ r. ⌜ r ≡ answerNumber answer ⌝ }
+    ensures { λ r. ⌜ r ≡ engineNumber answer ⌝ }
 {
     match answer {
-        EngineAnswer::Ignore => 1,
-        EngineAnswer::NoMatch => 2,
-        EngineAnswer::Count => 3,
-        EngineAnswer::CountPkt => 4,
+        EngineAnswer::Ended(a) => rules::machine_number(a),
         EngineAnswer::NotOneFlowSample => 18,
         EngineAnswer::Refused(why, _) => rules::refusal_number(why),
     }
@@ -154,28 +151,30 @@ fn comes_back(m: EngineState, parameter: usize) -> EngineState
 }
 
 // Ends with no item.
-fn finishes(m: EngineState, answer: u8) -> EngineState
+fn finishes(m: EngineState, answer: MachineAnswer) -> EngineState
     requires { ⌜ m .rules < 2 ^ 60 ⌝ }
     ensures { λ r. ⌜ r ≡ finishesOf m answer ⌝ }
 {
+    let number = rules::machine_number(answer);
     let mut r = m;
     r.held = 0;
     r.rules = m.rules + 1;
-    r.answer = answer;
+    r.answer = number;
     r
 }
 
 // Ends with this rule's item queued.
-fn counts(m: EngineState, answer: u8) -> EngineState
+fn counts(m: EngineState, answer: MachineAnswer) -> EngineState
     requires { ⌜ (m .rules < 2 ^ 60) × (m .held < 16) × (m .number < 65536) ⌝ }
     ensures { λ r. ⌜ r ≡ countsOf m answer ⌝ }
 {
+    let number = rules::machine_number(answer);
     let q = m.held;
     let mut r = m;
     r.queue[q] = m.number as u16;
     r.held = q + 1;
     r.rules = m.rules + 1;
-    r.answer = answer;
+    r.answer = number;
     r
 }
 
@@ -186,10 +185,10 @@ fn acts(a: Action, parameter: usize, m: EngineState) -> EngineState
 {
     match a {
         Action::Unknown => m,
-        Action::Ignore => finishes(m, 1),
-        Action::NoMatch => finishes(m, 2),
-        Action::Count => counts(m, 3),
-        Action::CountPkt => counts(m, 4),
+        Action::Ignore => finishes(m, MachineAnswer::Ignore),
+        Action::NoMatch => finishes(m, MachineAnswer::NoMatch),
+        Action::Count => counts(m, MachineAnswer::Count),
+        Action::CountPkt => counts(m, MachineAnswer::CountPkt),
         Action::Return => comes_back(m, parameter),
         Action::Gosub(t) => calls_to(m, parameter, t),
         Action::Goto(t) => goes_to(m, parameter, t),
@@ -234,7 +233,7 @@ fn next_rule(n: usize, m: EngineState) -> EngineState
         next.rules = m.rules + 1;
         return next;
     }
-    finishes(m, 2)
+    finishes(m, MachineAnswer::NoMatch)
 }
 
 // One step of the machine.
@@ -253,7 +252,7 @@ fn step_once(s: &[u8], n: usize, a: Attributes, m: EngineState) -> EngineState
 }
 
 fn start() -> EngineState
-    ensures { λ m. ⌜ m ≡ started ⌝ }
+    ensures { λ m. ⌜ m ≡ initialState ⌝ }
 {
     EngineState {
         number: 1,
@@ -271,7 +270,7 @@ fn start() -> EngineState
 fn run_machine(s: &[u8], a: Attributes) -> EngineState
     requires { ⌜ check (now s) ≡ Accepted ⌝ }
     ensures { λ m. ⌜ outcomeOf (ruleOf (now (s .entry))) (attribute a) m
-        ≡ after (count (now (s .entry))) (ruleOf (now (s .entry))) (attribute a) (bound (count (now (s .entry)))) ⌝ }
+        ≡ after (ruleCount (now (s .entry))) (ruleOf (now (s .entry))) (attribute a) (bound (ruleCount (now (s .entry)))) ⌝ }
 {
     let n = s.len() / 16;
     let mut m = start();
@@ -377,15 +376,15 @@ fn refused(answer: EngineAnswer) -> EngineResult
     EngineResult { answer, key, rules }
 }
 
-// The answer with an opcode's number.
-fn answer_of(opcode: u8) -> EngineAnswer
-    ensures { λ r. ⌜ r ≡ answerOf opcode ⌝ }
+// The answer that a state holds by its number.
+fn answer_of(number: u32) -> MachineAnswer
+    ensures { λ r. ⌜ r ≡ answerOf number ⌝ }
 {
-    match opcode {
-        1 => EngineAnswer::Ignore,
-        2 => EngineAnswer::NoMatch,
-        3 => EngineAnswer::Count,
-        _ => EngineAnswer::CountPkt,
+    match number {
+        1 => MachineAnswer::Ignore,
+        2 => MachineAnswer::NoMatch,
+        3 => MachineAnswer::Count,
+        _ => MachineAnswer::CountPkt,
     }
 }
 
@@ -397,7 +396,8 @@ fn run_flow(s: &[u8], x: &[u8], f: FlowSample) -> EngineResult
     let a = packet::attributes_of(x, f);
     let m = run_machine(s, a);
     let key = key_of(s, a, m);
-    let answer = answer_of(m.answer);
+    let ended = answer_of(m.answer);
+    let answer = EngineAnswer::Ended(ended);
     EngineResult {
         answer,
         key,

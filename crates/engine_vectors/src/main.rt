@@ -34,7 +34,7 @@ fn pair(s: &[u8], x: &[u8]) {
     match answer {
         EngineAnswer::NotOneFlowSample => vector_io::refused(number, 0),
         EngineAnswer::Refused(_, rule) => vector_io::refused(number, rule),
-        _ => {
+        EngineAnswer::Ended(_) => {
             vector_io::show(b"answer", &[number as u64]);
             vector_io::show(b" rules", &[r.rules]);
             vector_io::show(b" key", &[]);

@@ -1,38 +1,39 @@
 // The proved core for programs in C and Rust: the functions of the crates whose names end in _calls, under names that C can call, with the same contracts. A
 // slice is passed as a pointer and a length. include/sflow4.h says for each function what it answers.
+ghost use Rattle.xdr.specs.Writes.{afterwards};
 ghost use Rattle.engine.specs.Results.{engineOf};
 ghost use Rattle.extended_data.specs.ExtendedData.{segmentOf, asSegment, extendedOf, asExtended};
-ghost use Rattle.form_calls.specs.Forms.{written};
-ghost use Rattle.form_writer.specs.Parts.{writeValue};
+ghost use Rattle.form_calls.specs.Forms.{ipv4From, ipv6From, flowFrom, formWritten};
+ghost use Rattle.form_writer.specs.Parts.{writeGiven};
+ghost use Rattle.form_writer.specs.Values.{headerValue};
 ghost use Rattle.ledger_calls.specs.LedgerTable.{flowEntry, enteredTable};
 ghost use Rattle.line_calls.specs.ListedLines.{listedLines, countedTo, endedAt};
 ghost use Rattle.record_lines.specs.Lines.{writeLine};
 ghost use Rattle.listing.specs.Texts.{endLines};
 ghost use Rattle.numbers.specs.Addresses.{addressWith};
-ghost use Rattle.numbers.specs.Reports.{told, tell, handed};
+ghost use Rattle.numbers.specs.Reports.{tell, handed};
 ghost use Rattle.read_calls.specs.Reading.{headReport, extendedReport, segmentReport};
 ghost use Rattle.reader.specs.Datagrams.{datagramOf, asHead};
 ghost use Rattle.reader.specs.Samples.{sampleOf, asSample};
 ghost use Rattle.rule_calls.specs.RuleSets.{checkReport, engineReport};
 ghost use Rattle.rules.specs.Checks.{check};
 ghost use Rattle.sample_calls.specs.SampleReports.{sampleReport};
-ghost use Rattle.sample_writer.specs.CounterValues.{countersAllowed, countersValue};
-ghost use Rattle.sample_writer.specs.FlowValues.{isOne};
+ghost use Rattle.sample_writer.specs.CounterValues.{countersValue};
 ghost use Rattle.sflow.specs.Datagram.{as-path-type, extended-data-type, sample-type};
-ghost use Rattle.sflow.specs.Decode.{decode, mapped};
-ghost use Rattle.sflow.specs.Grammar.{encode};
+ghost use Rattle.sflow.specs.Decode.{decode, mapped, valueIn};
 ghost use Rattle.sflow.specs.Reading.{readDatagram};
 ghost use Rattle.write_reports.specs.WriteReports.{handOver};
 ghost use Rattle.writer.specs.Datagrams.{started, appended};
 ghost use lib.Dec.{eqb};
 ghost use lib.ListN.{length};
 ghost use mathlib.Core.Bool.{not};
+ghost use mathlib.Core.Option.{some};
 ghost use mathlib.Core.Path.{_≡_};
 
 // `read_calls::read`.
 #[no_mangle]
 pub extern "C" fn sflow4_read(octets: &[u8], out: &mut [u64]) -> u32
-    ensures { λ r. ⌜ told r (now (out .exit)) ≡ tell (headReport (asHead (mapped datagramOf (readDatagram (now (octets .entry)))))) (now (out .entry)) ⌝ }
+    ensures { λ r. ⌜ afterwards r (now (out .exit)) ≡ tell (headReport (asHead (mapped datagramOf (readDatagram (now (octets .entry)))))) (now (out .entry)) ⌝ }
 {
     read_calls::read(octets, out)
 }
@@ -40,7 +41,7 @@ pub extern "C" fn sflow4_read(octets: &[u8], out: &mut [u64]) -> u32
 // `sample_calls::sample`.
 #[no_mangle]
 pub extern "C" fn sflow4_sample(octets: &[u8], at: usize, out: &mut [u64]) -> u32
-    ensures { λ r. ⌜ told r (now (out .exit))
+    ensures { λ r. ⌜ afterwards r (now (out .exit))
         ≡ tell (sampleReport (now (octets .entry)) (asSample at (mapped (sampleOf at) (decode sample-type (now (octets .entry)) at)))) (now (out .entry)) ⌝ }
 {
     sample_calls::sample(octets, at, out)
@@ -49,7 +50,7 @@ pub extern "C" fn sflow4_sample(octets: &[u8], at: usize, out: &mut [u64]) -> u3
 // `read_calls::extended`.
 #[no_mangle]
 pub extern "C" fn sflow4_extended(octets: &[u8], at: usize, out: &mut [u64]) -> u32
-    ensures { λ r. ⌜ told r (now (out .exit))
+    ensures { λ r. ⌜ afterwards r (now (out .exit))
         ≡ tell (extendedReport (asExtended (mapped (extendedOf at) (decode extended-data-type (now (octets .entry)) at)))) (now (out .entry)) ⌝ }
 {
     read_calls::extended(octets, at, out)
@@ -58,7 +59,7 @@ pub extern "C" fn sflow4_extended(octets: &[u8], at: usize, out: &mut [u64]) -> 
 // `read_calls::segment`.
 #[no_mangle]
 pub extern "C" fn sflow4_segment(octets: &[u8], at: usize, out: &mut [u64]) -> u32
-    ensures { λ r. ⌜ told r (now (out .exit))
+    ensures { λ r. ⌜ afterwards r (now (out .exit))
         ≡ tell (segmentReport (asSegment (mapped (segmentOf at) (decode as-path-type (now (octets .entry)) at)))) (now (out .entry)) ⌝ }
 {
     read_calls::segment(octets, at, out)
@@ -67,7 +68,7 @@ pub extern "C" fn sflow4_segment(octets: &[u8], at: usize, out: &mut [u64]) -> u
 // `rule_calls::check`.
 #[no_mangle]
 pub extern "C" fn rtfm_check(rules: &[u8], out: &mut [u64]) -> u32
-    ensures { λ r. ⌜ told r (now (out .exit)) ≡ tell (checkReport (check (now (rules .entry)))) (now (out .entry)) ⌝ }
+    ensures { λ r. ⌜ afterwards r (now (out .exit)) ≡ tell (checkReport (check (now (rules .entry)))) (now (out .entry)) ⌝ }
 {
     rule_calls::check(rules, out)
 }
@@ -75,7 +76,7 @@ pub extern "C" fn rtfm_check(rules: &[u8], out: &mut [u64]) -> u32
 // `rule_calls::run`.
 #[no_mangle]
 pub extern "C" fn rtfm_run(rules: &[u8], sample: &[u8], out: &mut [u64]) -> u32
-    ensures { λ r. ⌜ told r (now (out .exit)) ≡ tell (engineReport (engineOf (now (rules .entry)) (now (sample .entry)))) (now (out .entry)) ⌝ }
+    ensures { λ r. ⌜ afterwards r (now (out .exit)) ≡ tell (engineReport (engineOf (now (rules .entry)) (now (sample .entry)))) (now (out .entry)) ⌝ }
 {
     rule_calls::run(rules, sample, out)
 }
@@ -90,9 +91,101 @@ pub extern "C" fn sflow4_append(
     out: &mut [u64],
 ) -> u32
     ensures { λ r. ⌜ handed r (now (buffer .exit)) (now (out .exit))
-        ≡ handOver (appended (isOne sample-type (now (sample .entry))) (now (sample .entry)) limit length (now (buffer .entry))) (now (out .entry)) ⌝ }
+        ≡ handOver (appended (valueIn sample-type (now (sample .entry))) limit length (now (buffer .entry))) (now (out .entry)) ⌝ }
 {
     write_calls::append(buffer, limit, length, sample, out)
+}
+
+// `form_calls::append_header`.
+#[no_mangle]
+pub extern "C" fn sflow4_append_header(
+    buffer: &mut [u8],
+    limit: usize,
+    length: usize,
+    words: &[u32],
+    protocol: u32,
+    frame_length: u32,
+    header: &[u8],
+    entries: &[u8],
+    out: &mut [u64],
+) -> u32
+    ensures { λ r. ⌜ handed r (now (buffer .exit)) (now (out .exit))
+        ≡ handOver (appended (flowFrom (now (words .entry)) (some (headerValue protocol «frame_length» (now (header .entry)))) (now (entries .entry))) limit length (now (buffer .entry))) (now (out .entry)) ⌝ }
+{
+    form_calls::append_header(
+        buffer,
+        limit,
+        length,
+        words,
+        protocol,
+        frame_length,
+        header,
+        entries,
+        out,
+    )
+}
+
+// `form_calls::append_ipv4`.
+#[no_mangle]
+pub extern "C" fn sflow4_append_ipv4(
+    buffer: &mut [u8],
+    limit: usize,
+    length: usize,
+    words: &[u32],
+    packet: &[u32],
+    entries: &[u8],
+    out: &mut [u64],
+) -> u32
+    ensures { λ r. ⌜ handed r (now (buffer .exit)) (now (out .exit))
+        ≡ handOver (appended (flowFrom (now (words .entry)) (ipv4From (now (packet .entry))) (now (entries .entry))) limit length (now (buffer .entry))) (now (out .entry)) ⌝ }
+{
+    form_calls::append_ipv4(buffer, limit, length, words, packet, entries, out)
+}
+
+// `form_calls::append_ipv6`.
+#[no_mangle]
+pub extern "C" fn sflow4_append_ipv6(
+    buffer: &mut [u8],
+    limit: usize,
+    length: usize,
+    words: &[u32],
+    packet: &[u32],
+    entries: &[u8],
+    out: &mut [u64],
+) -> u32
+    ensures { λ r. ⌜ handed r (now (buffer .exit)) (now (out .exit))
+        ≡ handOver (appended (flowFrom (now (words .entry)) (ipv6From (now (packet .entry))) (now (entries .entry))) limit length (now (buffer .entry))) (now (out .entry)) ⌝ }
+{
+    form_calls::append_ipv6(buffer, limit, length, words, packet, entries, out)
+}
+
+// `write_calls::append_counters`.
+#[no_mangle]
+pub extern "C" fn sflow4_append_counters(
+    buffer: &mut [u8],
+    limit: usize,
+    length: usize,
+    sequence_number: u32,
+    source_id: u32,
+    interval: u32,
+    version: u32,
+    numbers: &[u64],
+    out: &mut [u64],
+) -> u32
+    ensures { λ r. ⌜ handed r (now (buffer .exit)) (now (out .exit))
+        ≡ handOver (appended (some (countersValue «sequence_number» «source_id» interval version (now (numbers .entry)))) limit length (now (buffer .entry))) (now (out .entry)) ⌝ }
+{
+    write_calls::append_counters(
+        buffer,
+        limit,
+        length,
+        sequence_number,
+        source_id,
+        interval,
+        version,
+        numbers,
+        out,
+    )
 }
 
 // `write_calls::start`.
@@ -138,8 +231,7 @@ pub extern "C" fn sflow4_write_counters(
     out: &mut [u64],
 ) -> u32
     ensures { λ r. ⌜ handed r (now (buffer .exit)) (now (out .exit))
-        ≡ handOver (writeValue (countersAllowed version (now (numbers .entry)))
-        (encode sample-type (countersValue «sequence_number» «source_id» interval version (now (numbers .entry)))) (now (buffer .entry))) (now (out .entry)) ⌝ }
+        ≡ handOver (writeGiven sample-type (some (countersValue «sequence_number» «source_id» interval version (now (numbers .entry)))) (now (buffer .entry))) (now (out .entry)) ⌝ }
 {
     write_calls::write_counters(
         sequence_number,
@@ -163,7 +255,7 @@ pub extern "C" fn sflow4_write(
     out: &mut [u64],
 ) -> u32
     ensures { λ r. ⌜ handed r (now (buffer .exit)) (now (out .exit))
-        ≡ handOver (written kind (now (words .entry)) (now (first .entry)) (now (second .entry)) (now (buffer .entry))) (now (out .entry)) ⌝ }
+        ≡ handOver (formWritten kind (now (words .entry)) (now (first .entry)) (now (second .entry)) (now (buffer .entry))) (now (out .entry)) ⌝ }
 {
     form_calls::write(kind, words, first, second, buffer, out)
 }
@@ -181,7 +273,7 @@ pub extern "C" fn sflow4_ledger(
     sequence_number: u32,
     sample_pool: u32,
 ) -> u32
-    ensures { λ r. ⌜ told r (now (table .exit))
+    ensures { λ r. ⌜ afterwards r (now (table .exit))
         ≡ enteredTable (flowEntry (addressWith «agent_type» a b c d) «source_id» «sequence_number» «sample_pool») (now (table .entry)) ⌝ }
 {
     ledger_calls::enter(

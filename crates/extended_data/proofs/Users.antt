@@ -7,7 +7,7 @@ use Rattle.xdr.specs.declared.WordRead.the-variants.{Word}
 use Rattle.xdr.proofs.Reading.{word-read}
 use Rattle.sflow.specs.declared.Refusal.{Refusal}
 use Rattle.sflow.specs.declared.Refusal.the-variants.{UrlDirection}
-use Rattle.sflow.specs.Grammar.{opaque, none}
+use Rattle.sflow.specs.Grammar.{opaque, unlimited}
 use Rattle.sflow.specs.Decode.{refused, mapped, decode}
 use Rattle.sflow.specs.Datagram.{extended-user, extended-url}
 use Rattle.fields.specs.declared.strings.Text.{Text}
@@ -28,27 +28,27 @@ abbrev pub urlWith : ℕ → Text → Extended
 urlWith direction url = IsUrl (record { direction = direction; url = url })
 
 -- the first name is refused
-pub user-refused : (s : List ℕ) (at : ℕ) (why : Refusal) (p : ℕ) → asString (mapped (textOf at) (decode (opaque none) s at)) ≡ Refused why p
+pub user-refused : (s : List ℕ) (at : ℕ) (why : Refusal) (p : ℕ) → asString (mapped (textOf at) (decode (opaque unlimited) s at)) ≡ Refused why p
     → mapped (userOf at) (decode extended-user s at) ≡ refused why p
-user-refused s at why p e = then-unseen (opaque none) (opaque none) s at (textOf at) (userOf at) why p (string-told _ _ e)
+user-refused s at why p e = then-unseen (opaque unlimited) (opaque unlimited) s at (textOf at) (userOf at) why p (string-told _ _ e)
 
 -- the first name was read: the answer about the second is the answer about both
 pub user-second : (s : List ℕ) (at : ℕ) (src : Text) (next : ℕ) (r : StringRead)
-    → asString (mapped (textOf at) (decode (opaque none) s at)) ≡ Found src next
-    → asString (mapped (textOf next) (decode (opaque none) s next)) ≡ r
+    → asString (mapped (textOf at) (decode (opaque unlimited) s at)) ≡ Found src next
+    → asString (mapped (textOf next) (decode (opaque unlimited) s next)) ≡ r
     → mapped (userOf at) (decode extended-user s at) ≡ mapped (userWith src) (ofString r)
 user-second s at src next r e f =
-    then-seen (opaque none) (opaque none) s at (textOf at) (λ t p ys. userWith t (textOf p ys)) src next (string-told _ _ e)
-    ∙ mapped-again (userWith src) (textOf next) (decode (opaque none) s next)
-    ∙ rw (string-told (mapped (textOf next) (decode (opaque none) s next)) r f)
+    then-seen (opaque unlimited) (opaque unlimited) s at (textOf at) (λ t p ys. userWith t (textOf p ys)) src next (string-told _ _ e)
+    ∙ mapped-again (userWith src) (textOf next) (decode (opaque unlimited) s next)
+    ∙ rw (string-told (mapped (textOf next) (decode (opaque unlimited) s next)) r f)
 
 -- the direction was read: the answer about the string is the answer about the URL
 pub url-string : (s : List ℕ) (at direction start : ℕ) (r : StringRead)
     → wordAt s at ≡ Word direction start → 1 ≤ direction → direction ≤ 2
-    → asString (mapped (textOf start) (decode (opaque none) s start)) ≡ r
+    → asString (mapped (textOf start) (decode (opaque unlimited) s start)) ≡ r
     → mapped (urlOf at) (decode extended-url s at) ≡ mapped (urlWith direction) (ofString r)
 url-string s at direction start r e low high f =
-    enumeration-in UrlDirection 2 (opaque none) s at (urlOf at) direction start e low high
+    enumeration-in UrlDirection 2 (opaque unlimited) s at (urlOf at) direction start e low high
     ∙ rw (sym (word-read s at direction start e .next-is))
-    (mapped-again (urlWith direction) (textOf start) (decode (opaque none) s start)
-    ∙ rw (string-told (mapped (textOf start) (decode (opaque none) s start)) r f))
+    (mapped-again (urlWith direction) (textOf start) (decode (opaque unlimited) s start)
+    ∙ rw (string-told (mapped (textOf start) (decode (opaque unlimited) s start)) r f))

@@ -3,7 +3,7 @@ use Prim.Native.Nat.{ℕ, _+_}
 use mathlib.Core.Bool.{Bool, true, false, cond}
 use mathlib.Core.List.{[]}
 use lib.Dec.{eqb}
-use Rattle.sflow.specs.Grammar.{fixed, opaque, none, list, _then_, Value}
+use Rattle.sflow.specs.Grammar.{fixed, opaque, unlimited, list, _then_, Value}
 use Rattle.sflow.specs.Decode.{Decoded, found, refused}
 use Rattle.sflow.specs.Datagram.{word, extended-switch, extended-router, as-path-type, extended-gateway, extended-user, extended-url, extended-data-type}
 use Rattle.fields.specs.declared.words.Entries.{Entries}
@@ -49,7 +49,7 @@ gatewayOf at v =
     (at + 12 + size (list as-path-type) (v .1 .0)) (v .1 .1)
 
 abbrev pub userOf : ℕ → Value extended-user → Extended
-userOf at v = IsUser (record { «src_user» = textOf at (v .0); «dst_user» = textOf (at + size (opaque none) (v .0)) (v .1) })
+userOf at v = IsUser (record { «src_user» = textOf at (v .0); «dst_user» = textOf (at + size (opaque unlimited) (v .0)) (v .1) })
 
 abbrev pub urlOf : ℕ → Value extended-url → Extended
 urlOf at v = IsUrl (record { direction = v .0; url = textOf (at + 4) (v .1) })

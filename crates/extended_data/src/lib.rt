@@ -318,13 +318,13 @@ fn pass_router(s: &[u8], at: usize) -> Passed
     let Passed::Next(masks_at) = nexthop else {
         return nexthop;
     };
-    fields::runs::pass_run(s, masks_at, 8, b"\x04\x04")
+    fields::words::pass_words(s, masks_at, 2)
 }
 
 fn pass_gateway(s: &[u8], at: usize) -> Passed
     ensures { λ r. ⌜ r ≡ asPassed (decode extended-gateway (now (s .entry)) at) ⌝ }
 {
-    let words = fields::runs::pass_run(s, at, 12, b"\x04\x04\x04");
+    let words = fields::words::pass_words(s, at, 3);
     let Passed::Next(path_at) = words else {
         return words;
     };
@@ -339,7 +339,7 @@ fn pass_gateway(s: &[u8], at: usize) -> Passed
     let Passed::Next(end) = communities else {
         return communities;
     };
-    fields::runs::pass_run(s, end, 4, b"\x04")
+    fields::runs::pass_item(s, end, 4)
 }
 
 fn pass_user(s: &[u8], at: usize) -> Passed
@@ -372,7 +372,7 @@ fn pass_entry(s: &[u8], at: usize) -> Passed
         return Passed::Refused(Refusal::CutItem, at);
     };
     match kind {
-        1 => fields::runs::pass_run(s, next, 16, b"\x04\x04\x04\x04"),
+        1 => fields::words::pass_words(s, next, 4),
         2 => pass_router(s, next),
         3 => pass_gateway(s, next),
         4 => pass_user(s, next),

@@ -15,7 +15,7 @@ use Rattle.sflow.specs.Decode.{found, refused, mapped, decode}
 use Rattle.sflow.specs.Datagram.{address}
 use Rattle.sflow.proofs.Steps.{union-arm, union-bad, union-cut, fixed-word, fixed-word-cut, fixed-quad, fixed-quad-cut, fixed-end}
 use Rattle.fields.specs.declared.address.Quad.{Quad as Four}
-use Rattle.fields.specs.Addresses.{quadOf, firstOf, addressOf}
+use Rattle.fields.specs.Addresses.{quadOf, firstWord, addressOf}
 
 -- a word behind a number, taken off again
 above : (m d : ℕ) → d < 2 ^ 32 → (m * 2 ^ 32 + d) / 2 ^ 32 ≡ m
@@ -32,7 +32,7 @@ quad-words a b c d ha hb hc hd =
 
 -- an IPv4 address, whole and cut short
 pub address-v4 : (s : List ℕ) (at k place a next : ℕ) → wordAt s at ≡ Word k place → k ≡ 1 → wordAt s place ≡ Word a next
-    → mapped addressOf (decode address s at) ≡ found (record { kind = 1; octets = firstOf a }) next
+    → mapped addressOf (decode address s at) ≡ found (record { kind = 1; octets = firstWord a }) next
 address-v4 s at k place a next e f g =
     union-arm _ _ _ s at addressOf 1 place (e ∙ ap (λ (n : ℕ). Word n place) f) refl
     ∙ rw (fixed-word s place a next [] g, fixed-end)

@@ -7,7 +7,7 @@ use mathlib.Core.Bool.{true, false}
 use mathlib.Core.Logic.{⊎-elim}
 use lib.ListN.{length}
 use Rattle.xdr.specs.Numbers.{numberAt, quadNumber}
-use Rattle.xdr.specs.Items.{wordAt, quadAt, itemsAt, numbersAt, sum}
+use Rattle.xdr.specs.Items.{wordAt, quadAt, itemsAt, numbersAt, totalWidth}
 use Rattle.xdr.specs.declared.RunRead.{RunRead}
 use Rattle.xdr.specs.declared.RunRead.the-variants.{Run, CutRun}
 use Rattle.xdr.proofs.Reading.{tested}
@@ -87,10 +87,10 @@ reads-found {s} (quad-cut {at} {p} {ws} e) = fixed-quad-cut s at p ws e
 reads-found {s} (four-cut {at} {p} {ws} e) = fixed-both s (4 ∷ 4 ∷ 4 ∷ 4 ∷ []) ws at ∙ rw (four-told s at (CutFour p) e)
 
 -- a run of fixed items ends behind its widths
-pub fixed-next : (s ws : List ℕ) (at : ℕ) (vs : List ℕ) (next : ℕ) → decode (fixed ws) s at ≡ found vs next → next ≡ at + sum ws
+pub fixed-next : (s ws : List ℕ) (at : ℕ) (vs : List ℕ) (next : ℕ) → decode (fixed ws) s at ≡ found vs next → next ≡ at + totalWidth ws
 unfolding decode
 fixed-next s ws at vs next e = go (itemsAt s at ws) refl e
   where
-    go : (r : RunRead) → itemsAt s at ws ≡ r → fixedItems (numbersAt s at ws) r ≡ found vs next → next ≡ at + sum ws
+    go : (r : RunRead) → itemsAt s at ws ≡ r → fixedItems (numbersAt s at ws) r ≡ found vs next → next ≡ at + totalWidth ws
     go (Run n) f g = let same : n ≡ next = cc in rw (← same) (items-read s at ws n f .next-is)
     go (CutRun p) f g = let z : _≡_ {A = ℕ} 0 1 = cc in absurd (omega arith)

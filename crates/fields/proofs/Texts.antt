@@ -11,7 +11,7 @@ use Rattle.xdr.specs.declared.PaddedRead.the-variants.{Padded, CutPadded, Nonze
 use Rattle.xdr.proofs.Reading.{word-read}
 use Rattle.xdr.proofs.Padding.{padded-read}
 use Rattle.sflow.specs.declared.Refusal.{Refusal}
-use Rattle.sflow.specs.Grammar.{opaque, none}
+use Rattle.sflow.specs.Grammar.{opaque, unlimited}
 use Rattle.sflow.specs.Decode.{found, refused, mapped, stringItem, decode}
 use Rattle.sflow.proofs.Steps.{string-word}
 use Rattle.fields.specs.declared.runs.Passed.the-variants.{Next, Refused}
@@ -38,7 +38,7 @@ octets-found s at n next e = go (paddedAt s at n) refl e
 
 pub text-found : (s : List ℕ) (at n start next : ℕ) → wordAt s at ≡ Word n start
     → asPassed (stringItem (take n (drop start s)) (paddedAt s start n)) ≡ Next next
-    → mapped (textOf at) (decode (opaque none) s at) ≡ found (record { at = start; length = n }) next
+    → mapped (textOf at) (decode (opaque unlimited) s at) ≡ found (record { at = start; length = n }) next
 text-found s at n start next e f =
     let r = octets-found s start n next f in
     let w = word-read s at n start e in
@@ -46,5 +46,5 @@ text-found s at n start next e f =
 
 pub text-refused : (s : List ℕ) (at n start : ℕ) (why : Refusal) (p : ℕ) → wordAt s at ≡ Word n start
     → asPassed (stringItem (take n (drop start s)) (paddedAt s start n)) ≡ Refused why p
-    → mapped (textOf at) (decode (opaque none) s at) ≡ refused why p
+    → mapped (textOf at) (decode (opaque unlimited) s at) ≡ refused why p
 text-refused s at n start why p e f = string-word s at (textOf at) n start e ∙ rw (passed-refused (stringItem (take n (drop start s)) (paddedAt s start n)) why p f)

@@ -16,11 +16,11 @@ abbrev pub quadOf : ℕ → Quad
 quadOf n = record { a = n / 2 ^ 32 / 2 ^ 32 / 2 ^ 32; b = n / 2 ^ 32 / 2 ^ 32 % 2 ^ 32; c = n / 2 ^ 32 % 2 ^ 32; d = n % 2 ^ 32 }
 
 -- four octets as the first of four words
-abbrev pub firstOf : ℕ → Quad
-firstOf n = record { a = n; b = 0; c = 0; d = 0 }
+abbrev pub firstWord : ℕ → Quad
+firstWord n = record { a = n; b = 0; c = 0; d = 0 }
 
 abbrev pub addressOf : Value address → Address
-addressOf v = record { kind = v .0; octets = cond (eqb (v .0) 1) (firstOf (item (v .1) 0)) (quadOf (item (v .1) 0)) }
+addressOf v = record { kind = v .0; octets = cond (eqb (v .0) 1) (firstWord (item (v .1) 0)) (quadOf (item (v .1) 0)) }
 
 abbrev pub asAddress : Decoded Address → AddressRead
 asAddress (found v next) = Found v next

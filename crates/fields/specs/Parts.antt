@@ -2,16 +2,13 @@
 use Prim.Native.Nat.{ℕ}
 use mathlib.Core.List.{List}
 use lib.ListN.{length, getD}
-use Rattle.xdr.specs.declared.RunRead.{RunRead}
-use Rattle.xdr.specs.declared.RunRead.the-variants.{Run, CutRun}
-use Rattle.sflow.specs.declared.Refusal.the-variants.{CutItem}
 use Rattle.sflow.specs.Grammar.{Form, Value, encode}
 use Rattle.sflow.specs.Decode.{Decoded, found, refused}
 use Rattle.fields.specs.declared.runs.Passed.{Passed}
 use Rattle.fields.specs.declared.runs.Passed.the-variants.{Next, Refused}
 use Rattle.fields.specs.declared.words.Entries.{Entries}
 
--- the number of a run's item, counted from 0
+-- the number at a position of a list, counted from 0: a run's item, or an octet
 abbrev pub item : List ℕ → ℕ → ℕ
 item vs i = getD vs i 0
 
@@ -27,8 +24,3 @@ entriesAt at vs = record { at = at; count = length vs }
 abbrev pub asPassed : {A : Type 0} → Decoded A → Passed
 asPassed (found v next) = Next next
 asPassed (refused why p) = Refused why p
-
--- the offset behind a run of items, or the item that is cut short
-abbrev pub asRun : RunRead → Passed
-asRun (Run next) = Next next
-asRun (CutRun p) = Refused CutItem p

@@ -74,8 +74,8 @@ pub fn pass_address(s: &[u8], at: usize) -> Passed
         return Passed::Refused(Refusal::CutItem, at);
     };
     match kind {
-        1 => crate::runs::pass_run(s, place, 4, b"\x04"),
-        2 => crate::runs::pass_run(s, place, 16, b"\x10"),
+        1 => crate::runs::pass_item(s, place, 4),
+        2 => crate::runs::pass_item(s, place, 16),
         _ => Passed::Refused(Refusal::AddressType, at),
     }
 }

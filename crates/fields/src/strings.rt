@@ -6,7 +6,7 @@ use xdr::WordRead;
 ghost use mathlib.Core.Path.{_≡_};
 ghost use lib.ListN.{take, drop};
 ghost use Rattle.xdr.specs.Items.{paddedAt};
-ghost use Rattle.sflow.specs.Grammar.{opaque, none};
+ghost use Rattle.sflow.specs.Grammar.{opaque, unlimited};
 ghost use Rattle.sflow.specs.Decode.{stringItem, decode, mapped};
 ghost use Rattle.fields.specs.Parts.{asPassed};
 ghost use Rattle.fields.specs.Strings.{textOf, asString};
@@ -35,7 +35,7 @@ pub fn pass_octets(s: &[u8], at: usize, length: u32) -> Passed
 
 // A string of any length.
 pub fn read_string(s: &[u8], at: usize) -> StringRead
-    ensures { λ r. ⌜ r ≡ asString (mapped (textOf at) (decode (opaque none) (now (s .entry)) at)) ⌝ }
+    ensures { λ r. ⌜ r ≡ asString (mapped (textOf at) (decode (opaque unlimited) (now (s .entry)) at)) ⌝ }
 {
     let WordRead::Word(length, start) = xdr::read_word(s, at) else {
         return StringRead::Refused(Refusal::CutItem, at);
@@ -48,7 +48,7 @@ pub fn read_string(s: &[u8], at: usize) -> StringRead
 
 // A string that is not handed out.
 pub fn pass_string(s: &[u8], at: usize) -> Passed
-    ensures { λ r. ⌜ r ≡ asPassed (decode (opaque none) (now (s .entry)) at) ⌝ }
+    ensures { λ r. ⌜ r ≡ asPassed (decode (opaque unlimited) (now (s .entry)) at) ⌝ }
 {
     let WordRead::Word(length, start) = xdr::read_word(s, at) else {
         return Passed::Refused(Refusal::CutItem, at);

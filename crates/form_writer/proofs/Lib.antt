@@ -3,7 +3,8 @@ pub mod WordRuns
 pub mod Stores
 pub mod Allowances
 pub mod Allowed
+pub mod FormValues
 pub mod PacketOctets
 pub mod ExtendedOctets
 pub mod PathOctets
-pub mod GatewayValues
+pub mod Gateways

@@ -1,7 +1,7 @@
 -- The octets of packet data as words and a string. Assumes nothing.
 use Prim.Native.Nat.{ℕ, _^_, _<_}
 use mathlib.Core.Path.{_≡_, refl}
-use mathlib.Core.List.{List, [], _∷_, flatMap, append-assoc, append-nil}
+use mathlib.Core.List.{List, [], _∷_, _++_, flatMap, append-assoc, append-nil}
 use lib.ListN.{length}
 use Rattle.xdr.specs.Numbers.{quadNumber}
 use Rattle.xdr.specs.Writes.{paddedOctets}
@@ -16,6 +16,12 @@ pub header-octets : (protocol frame : ℕ) (xs : List ℕ)
     → partsOctets (1 ∷ protocol ∷ frame ∷ length xs ∷ []) xs [] [] [] [] ≡ encode packet-data-type (headerValue protocol frame xs)
 unfolding partsOctets wordsOctets flatMap paddedOctets encode octetsOfEach
 header-octets protocol frame xs = simp (append-assoc, append-nil)
+
+-- the same as words and a string
+pub header-words : (protocol frame : ℕ) (xs : List ℕ)
+    → wordsOctets (1 ∷ protocol ∷ frame ∷ length xs ∷ []) ++ paddedOctets xs ≡ encode packet-data-type (headerValue protocol frame xs)
+unfolding wordsOctets flatMap paddedOctets encode octetsOfEach
+header-words protocol frame xs = simp (append-assoc, append-nil)
 
 -- the octets of an IPv4 packet as words
 pub ipv4-octets : (a b c d e f g h : ℕ)

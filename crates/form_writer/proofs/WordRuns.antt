@@ -7,7 +7,7 @@ use mathlib.Core.List.{List, [], _∷_, _++_, flatMap, append-assoc, append-nil}
 use lib.ListN.{length, getD, take, length-append, take-append-drop}
 use lib.Seq.{take-suc, take-length, length-take-le}
 use Rattle.xdr.specs.Numbers.{octetsOf}
-use Rattle.xdr.specs.Writes.{stored, writeAt, wrote}
+use Rattle.xdr.specs.Writes.{stored, writeAt, afterwards}
 use Rattle.xdr.specs.declared.Written.{Written}
 use Rattle.xdr.proofs.Octets.{octets-length}
 use Rattle.xdr.proofs.Writing.{stored-next, stored-length, wrote-fits}
@@ -34,10 +34,10 @@ stored-nothing d at = let z : at + 0 ≡ at = omega arith in rw z (take-append-d
 
 -- one word more
 pub words-next : (d now : List ℕ) (at : ℕ) (ws : List ℕ) (i p : ℕ) (r : Written) (e : List ℕ) → at + length ws * 4 ≤ length d → i < length ws
-    → p ≡ at + i * 4 → now ≡ stored d at (wordsOctets (take i ws)) → wrote r e ≡ writeAt now p (octetsOf 4 (getD ws i 0))
+    → p ≡ at + i * 4 → now ≡ stored d at (wordsOctets (take i ws)) → afterwards r e ≡ writeAt now p (octetsOf 4 (getD ws i 0))
     → e ≡ stored d at (wordsOctets (take (i + 1) ws))
 words-next d now at ws i p r e room h q same f′ =
-    let f : wrote r e ≡ writeAt (stored d at (wordsOctets (take i ws))) p (octetsOf 4 (getD ws i 0)) = rw same at f′ in
+    let f : afterwards r e ≡ writeAt (stored d at (wordsOctets (take i ws))) p (octetsOf 4 (getD ws i 0)) = rw same at f′ in
     let w : ℕ = getD ws i 0 in
     let before : List ℕ = wordsOctets (take i ws) in
     let long : length before ≡ i * 4 = words-length (take i ws) ∙ ap (λ (n : ℕ). n * 4) (length-take-le i ws (omega arith)) in

@@ -2,32 +2,34 @@
 use Prim.Native.Nat.{ℕ}
 use mathlib.Core.Bool.{Bool, cond}
 use mathlib.Core.List.{List, _++_, flatMap}
+use mathlib.Core.Option.{Option}
 use lib.ListN.{length}
 use lib.Dec.{leb}
 use Rattle.xdr.specs.Numbers.{octetsOf}
-use Rattle.xdr.specs.Writes.{stored, paddedOctets}
+use Rattle.xdr.specs.Writes.{paddedOctets, Afterwards, afterwards, storeIf}
+use Rattle.sflow.specs.Grammar.{Form, Value, allowsGiven, encodeGiven}
 use Rattle.form_writer.specs.declared.parts.WriteAnswer.{WriteAnswer}
 use Rattle.form_writer.specs.declared.parts.WriteAnswer.the-variants.{Done, BadLimit, BadDatagram, BadValue, NoRoom}
 
 -- the number of each answer; 0 where the octets are written
-abbrev pub answerNumber : WriteAnswer → ℕ
-answerNumber (Done n) = 0
-answerNumber NoRoom = 20
-answerNumber BadLimit = 21
-answerNumber BadValue = 22
-answerNumber BadDatagram = 23
-
--- an answer, and the buffer afterwards
-pub data Outcome : Type 0 where
-  outcome : WriteAnswer → List ℕ → Outcome
+abbrev pub writeNumber : WriteAnswer → ℕ
+writeNumber (Done n) = 0
+writeNumber NoRoom = 20
+writeNumber BadLimit = 21
+writeNumber BadValue = 22
+writeNumber BadDatagram = 23
 
 -- octets written to the front of a buffer, or nothing where they do not fit it
-unfoldable pub writeAlone : List ℕ → List ℕ → Outcome
-writeAlone xs d = cond (leb (length xs) (length d)) (outcome (Done (length xs)) (stored d 0 xs)) (outcome NoRoom d)
+unfoldable pub writeAlone : List ℕ → List ℕ → Afterwards WriteAnswer
+writeAlone xs d = storeIf (leb (length xs) (length d)) (Done (length xs)) NoRoom d 0 xs
 
--- a value that may not be in the grammar, and its octets
-abbrev pub writeValue : Bool → List ℕ → List ℕ → Outcome
-writeValue allowed xs d = cond allowed (writeAlone xs d) (outcome BadValue d)
+-- octets that may not be those of a value of the grammar
+abbrev pub writeValue : Bool → List ℕ → List ℕ → Afterwards WriteAnswer
+writeValue allowed xs d = cond allowed (writeAlone xs d) (afterwards BadValue d)
+
+-- "A writer of values alone tests 22, then 20 against its buffer's length": a value of a form, where one is given and the form allows it
+abbrev pub writeGiven : (g : Form) → Option (Value g) → List ℕ → Afterwards WriteAnswer
+writeGiven g x d = writeValue (allowsGiven g x) (encodeGiven g x) d
 
 -- the octets of words
 unfoldable pub wordsOctets : List ℕ → List ℕ
@@ -38,6 +40,6 @@ unfoldable pub partsOctets : List ℕ → List ℕ → List ℕ → List ℕ →
 partsOctets head first middle list second tail =
     wordsOctets head ++ (paddedOctets first ++ (wordsOctets middle ++ (wordsOctets list ++ (paddedOctets second ++ wordsOctets tail))))
 
--- words, octets, words, octets
-unfoldable pub joinedOctets : List ℕ → List ℕ → List ℕ → List ℕ → List ℕ
-joinedOctets head first middle second = wordsOctets head ++ (first ++ (wordsOctets middle ++ second))
+-- words, a string with its padding, a word, octets
+unfoldable pub joinedOctets : List ℕ → List ℕ → ℕ → List ℕ → List ℕ
+joinedOctets head string count xs = wordsOctets head ++ (paddedOctets string ++ (octetsOf 4 count ++ xs))

@@ -4,32 +4,21 @@ use extended_data::Router;
 use extended_data::Switch;
 use fields::runs::Passed;
 ghost use mathlib.Core.Path.{_≡_};
-ghost use Rattle.sflow.specs.Grammar.{encode};
+ghost use mathlib.Core.Option.{some};
+ghost use Rattle.xdr.specs.Writes.{afterwards};
 ghost use Rattle.sflow.specs.Datagram.{as-path-type, extended-data-type};
-ghost use Rattle.form_writer.specs.Parts.{outcome, writeAlone, writeValue};
-ghost use Rattle.form_writer.specs.Values.{
-  switchValue,
-  addressAllowed,
-  routerValue,
-  segmentAllowed,
-  segmentValue,
-  pathAllowed,
-  gatewayOctets,
-  userAllowed,
-  userValue,
-  urlAllowed,
-  urlValue,
-};
+ghost use Rattle.form_writer.specs.Parts.{writeGiven};
+ghost use Rattle.form_writer.specs.Values.{switchValue, routerValue, segmentValue, gatewayGiven, userValue, urlValue};
 
 pub fn write_switch(d: &mut [u8], x: Switch) -> WriteAnswer
-    ensures { λ r. ⌜ outcome r (now (d .exit)) ≡ writeAlone (encode extended-data-type (switchValue x)) (now (d .entry)) ⌝ }
+    ensures { λ r. ⌜ afterwards r (now (d .exit)) ≡ writeGiven extended-data-type (some (switchValue x)) (now (d .entry)) ⌝ }
 {
     let ws = [1, x.src_vlan, x.src_priority, x.dst_vlan, x.dst_priority];
     crate::parts::write_words(d, &ws)
 }
 
 pub fn write_router(d: &mut [u8], x: Router) -> WriteAnswer
-    ensures { λ r. ⌜ outcome r (now (d .exit)) ≡ writeValue (addressAllowed (x .nexthop)) (encode extended-data-type (routerValue x)) (now (d .entry)) ⌝ }
+    ensures { λ r. ⌜ afterwards r (now (d .exit)) ≡ writeGiven extended-data-type (some (routerValue x)) (now (d .entry)) ⌝ }
 {
     let a = x.nexthop;
     let q = a.octets;
@@ -47,8 +36,8 @@ pub fn write_router(d: &mut [u8], x: Router) -> WriteAnswer
 
 // A path segment of a type, 1 or 2, and its numbers.
 pub fn write_segment(d: &mut [u8], kind: u32, numbers: &[u32]) -> WriteAnswer
-    ensures { λ r. ⌜ outcome r (now (d .exit))
-        ≡ writeValue (segmentAllowed kind (now (numbers .entry))) (encode as-path-type (segmentValue kind (now (numbers .entry)))) (now (d .entry)) ⌝ }
+    ensures { λ r. ⌜ afterwards r (now (d .exit))
+        ≡ writeGiven as-path-type (some (segmentValue kind (now (numbers .entry)))) (now (d .entry)) ⌝ }
 {
     if kind < 1 {
         return WriteAnswer::BadValue;
@@ -65,18 +54,20 @@ pub fn write_segment(d: &mut [u8], kind: u32, numbers: &[u32]) -> WriteAnswer
     crate::parts::write_parts(d, &head, b"", none, numbers, b"", none)
 }
 
-// A gateway: the words before the path, so many path segments as octets that write_segment wrote, the communities and the local preference.
+// A gateway: the autonomous systems of router, source and source peer, so many path segments as octets that write_segment wrote, the communities and the
+// local preference.
 pub fn write_gateway(
     d: &mut [u8],
-    words: [u32; 3],
+    router_as: u32,
+    src_as: u32,
+    src_peer_as: u32,
     count: u32,
     path: &[u8],
     communities: &[u32],
     localpref: u32,
 ) -> WriteAnswer
-    ensures { λ r. ⌜ outcome r (now (d .exit))
-        ≡ writeValue (pathAllowed count (now (path .entry)) (now (communities .entry)))
-        (gatewayOctets words count (now (path .entry)) (now (communities .entry)) localpref) (now (d .entry)) ⌝ }
+    ensures { λ r. ⌜ afterwards r (now (d .exit))
+        ≡ writeGiven extended-data-type (gatewayGiven «router_as» «src_as» «src_peer_as» count (now (path .entry)) (now (communities .entry)) localpref) (now (d .entry)) ⌝ }
 {
     let passed = extended_data::pass_segments(path, 0, count);
     let Passed::Next(end) = passed else {
@@ -88,15 +79,15 @@ pub fn write_gateway(
     if 4294967295 < communities.len() {
         return WriteAnswer::BadValue;
     }
-    let head = [3, words[0], words[1], words[2], count];
+    let head = [3, router_as, src_as, src_peer_as, count];
     let middle = [communities.len() as u32];
     let tail = [localpref];
     crate::parts::write_parts(d, &head, path, &middle, communities, b"", &tail)
 }
 
 pub fn write_user(d: &mut [u8], src_user: &[u8], dst_user: &[u8]) -> WriteAnswer
-    ensures { λ r. ⌜ outcome r (now (d .exit))
-        ≡ writeValue (userAllowed (now («src_user» .entry)) (now («dst_user» .entry))) (encode extended-data-type (userValue (now («src_user» .entry)) (now («dst_user» .entry)))) (now (d .entry)) ⌝ }
+    ensures { λ r. ⌜ afterwards r (now (d .exit))
+        ≡ writeGiven extended-data-type (some (userValue (now («src_user» .entry)) (now («dst_user» .entry)))) (now (d .entry)) ⌝ }
 {
     if 4294967295 < src_user.len() {
         return WriteAnswer::BadValue;
@@ -112,8 +103,8 @@ pub fn write_user(d: &mut [u8], src_user: &[u8], dst_user: &[u8]) -> WriteAnswer
 }
 
 pub fn write_url(d: &mut [u8], direction: u32, url: &[u8]) -> WriteAnswer
-    ensures { λ r. ⌜ outcome r (now (d .exit))
-        ≡ writeValue (urlAllowed direction (now (url .entry))) (encode extended-data-type (urlValue direction (now (url .entry)))) (now (d .entry)) ⌝ }
+    ensures { λ r. ⌜ afterwards r (now (d .exit))
+        ≡ writeGiven extended-data-type (some (urlValue direction (now (url .entry)))) (now (d .entry)) ⌝ }
 {
     if direction < 1 {
         return WriteAnswer::BadValue;

@@ -3,15 +3,15 @@ use crate::parts::WriteAnswer;
 use packet_data::SampledIpv4;
 use packet_data::SampledIpv6;
 ghost use mathlib.Core.Path.{_≡_};
-ghost use lib.ListN.{length};
-ghost use Rattle.sflow.specs.Grammar.{encode};
+ghost use mathlib.Core.Option.{some};
+ghost use Rattle.xdr.specs.Writes.{afterwards};
 ghost use Rattle.sflow.specs.Datagram.{packet-data-type};
-ghost use Rattle.form_writer.specs.Parts.{outcome, writeAlone, writeValue};
-ghost use Rattle.form_writer.specs.Values.{headerAllowed, headerValue, ipv4Value, ipv6Value};
+ghost use Rattle.form_writer.specs.Parts.{writeGiven};
+ghost use Rattle.form_writer.specs.Values.{headerValue, ipv4Value, ipv6Value};
 
 pub fn write_header(d: &mut [u8], protocol: u32, frame_length: u32, header: &[u8]) -> WriteAnswer
-    ensures { λ r. ⌜ outcome r (now (d .exit))
-        ≡ writeValue (headerAllowed protocol (length (now (header .entry)))) (encode packet-data-type (headerValue protocol «frame_length» (now (header .entry)))) (now (d .entry)) ⌝ }
+    ensures { λ r. ⌜ afterwards r (now (d .exit))
+        ≡ writeGiven packet-data-type (some (headerValue protocol «frame_length» (now (header .entry)))) (now (d .entry)) ⌝ }
 {
     if protocol < 1 {
         return WriteAnswer::BadValue;
@@ -29,7 +29,7 @@ pub fn write_header(d: &mut [u8], protocol: u32, frame_length: u32, header: &[u8
 }
 
 pub fn write_ipv4(d: &mut [u8], x: SampledIpv4) -> WriteAnswer
-    ensures { λ r. ⌜ outcome r (now (d .exit)) ≡ writeAlone (encode packet-data-type (ipv4Value x)) (now (d .entry)) ⌝ }
+    ensures { λ r. ⌜ afterwards r (now (d .exit)) ≡ writeGiven packet-data-type (some (ipv4Value x)) (now (d .entry)) ⌝ }
 {
     let ws = [
         2,
@@ -46,7 +46,7 @@ pub fn write_ipv4(d: &mut [u8], x: SampledIpv4) -> WriteAnswer
 }
 
 pub fn write_ipv6(d: &mut [u8], x: SampledIpv6) -> WriteAnswer
-    ensures { λ r. ⌜ outcome r (now (d .exit)) ≡ writeAlone (encode packet-data-type (ipv6Value x)) (now (d .entry)) ⌝ }
+    ensures { λ r. ⌜ afterwards r (now (d .exit)) ≡ writeGiven packet-data-type (some (ipv6Value x)) (now (d .entry)) ⌝ }
 {
     let s = x.src_ip;
     let t = x.dst_ip;

@@ -5,8 +5,8 @@ ghost use lib.Dec.{leb};
 ghost use lib.ListN.{length};
 ghost use mathlib.Core.List.{_++_};
 ghost use Rattle.xdr.specs.Items.{padded};
-ghost use Rattle.xdr.specs.Writes.{stored, paddedOctets};
-ghost use Rattle.form_writer.specs.Parts.{answerNumber, outcome, writeAlone, wordsOctets, partsOctets, joinedOctets};
+ghost use Rattle.xdr.specs.Writes.{stored, paddedOctets, afterwards};
+ghost use Rattle.form_writer.specs.Parts.{writeNumber, writeAlone, wordsOctets, partsOctets, joinedOctets};
 
 // What a writer answers: the number of octets written, or why it wrote none.
 pub enum WriteAnswer {
@@ -23,7 +23,7 @@ pub enum WriteAnswer {
 
 // The number of an answer; 0 where the octets are written.
 pub fn answer_number(answer: WriteAnswer) -> u32
-    ensures { λ r. ⌜ r ≡ answerNumber answer ⌝ }
+    ensures { λ r. ⌜ r ≡ writeNumber answer ⌝ }
 {
     match answer {
         WriteAnswer::Done(_) => 0,
@@ -76,7 +76,7 @@ fn put_words(d: &mut [u8], at: usize, ws: &[u32])
 
 // Words alone.
 pub fn write_words(d: &mut [u8], ws: &[u32]) -> WriteAnswer
-    ensures { λ r. ⌜ outcome r (now (d .exit)) ≡ writeAlone (wordsOctets (now (ws .entry))) (now (d .entry)) ⌝ }
+    ensures { λ r. ⌜ afterwards r (now (d .exit)) ≡ writeAlone (wordsOctets (now (ws .entry))) (now (d .entry)) ⌝ }
 {
     let size = ws.len() * 4;
     if d.len() < size {
@@ -106,7 +106,7 @@ pub fn write_parts(
     second: &[u8],
     tail: &[u32],
 ) -> WriteAnswer
-    ensures { λ r. ⌜ outcome r (now (d .exit))
+    ensures { λ r. ⌜ afterwards r (now (d .exit))
         ≡ writeAlone (partsOctets (now (head .entry)) (now (first .entry)) (now (middle .entry)) (now (list .entry)) (now (second .entry)) (now (tail .entry))) (now (d .entry)) ⌝ }
 {
     let a = head.len() * 4;
@@ -125,27 +125,26 @@ pub fn write_parts(
     WriteAnswer::NoRoom
 }
 
-// Words, octets, words, octets.
+// Words, a string with its padding, a word, octets.
 pub fn write_joined(
     d: &mut [u8],
     head: &[u32],
-    first: &[u8],
-    middle: &[u32],
-    second: &[u8],
+    string: &[u8],
+    count: u32,
+    octets: &[u8],
 ) -> WriteAnswer
-    ensures { λ r. ⌜ outcome r (now (d .exit))
-        ≡ writeAlone (joinedOctets (now (head .entry)) (now (first .entry)) (now (middle .entry)) (now (second .entry))) (now (d .entry)) ⌝ }
+    ensures { λ r. ⌜ afterwards r (now (d .exit))
+        ≡ writeAlone (joinedOctets (now (head .entry)) (now (string .entry)) count (now (octets .entry))) (now (d .entry)) ⌝ }
 {
     let a = head.len() * 4;
-    let b = first.len();
-    let c = middle.len() * 4;
-    let e = second.len();
-    if fits(d.len(), a, b, c, e, 0, 0) {
+    let b = (string.len() + 3) / 4 * 4;
+    let c = octets.len();
+    if fits(d.len(), a, b, 4, c, 0, 0) {
         put_words(d, 0, head);
-        xdr_write::write_octets(d, a, first);
-        put_words(d, a + b, middle);
-        xdr_write::write_octets(d, a + b + c, second);
-        return WriteAnswer::Done(a + b + c + e);
+        xdr_write::write_padded(d, a, string);
+        xdr_write::write_word(d, a + b, count);
+        xdr_write::write_octets(d, a + b + 4, octets);
+        return WriteAnswer::Done(a + b + 4 + c);
     }
     WriteAnswer::NoRoom
 }

@@ -1,10 +1,10 @@
 -- What the table's answers say of the rows. Assumes nothing.
-use Prim.Native.Nat.{ℕ, zero, suc, _^_, _≤_, _<_}
+use Prim.Native.Nat.{ℕ, _^_, _≤_, _<_}
 use native.Mathlib.Omega.{arith}
 use mathlib.Core.Path.{_≡_, refl, sym, ap, _∙_}
 use mathlib.Core.Logic.{_⊎_, inl, inr, _≢_, _↔_}
 use mathlib.Core.Bool.{Bool, true, false, true≢false, false≢true, cond, not, _&&_}
-use mathlib.Core.List.{List, [], _∷_}
+use mathlib.Core.List.{List}
 use lib.ListN.{length, getD, set}
 use lib.Seq.{getD-set-other, set-getD}
 use lib.Dec.{leb, ltb, eqb}
@@ -13,8 +13,9 @@ use Rattle.ledger.specs.declared.FlowEntry.{FlowEntry}
 use Rattle.ledger.specs.declared.Row.{Row}
 use Rattle.ledger.specs.declared.EntryAnswer.{EntryAnswer}
 use Rattle.ledger.specs.declared.EntryAnswer.the-variants.{Entered, TableFull, Repeated, Backward, OtherSource}
-use Rattle.ledger.specs.Ledger.{same, sourceOf, rowSource, sameSource, step, answered, opened, advanced, updated, isOf, isFree, firstRow, rowFor, freeRow, withRow, entered}
+use Rattle.ledger.specs.Ledger.{same, sourceOf, rowSource, sameSource, sequenceStep, answered, opened, advanced, updated, isOf, isFree, firstRow, rowFor, freeRow, withRow, entered}
 use Rattle.ledger.specs.Runs.{AllOthers}
+use Rattle.ledger.proofs.Tables.{first-passes, first-none, none-first}
 
 -- a sample that has a row is entered there by the rules of one row
 pub by-row : (rows : List Row) (x : FlowEntry) → rowFor x rows < length rows
@@ -34,7 +35,7 @@ others-stay rows x j n = go (ltb (rowFor x rows) (length rows))
 -- a row that refuses a sample stays as it was
 pub row-kept : (row : Row) (x : FlowEntry) → (updated row x .answer ≡ Entered) ⊎ (updated row x .row ≡ row)
 unfolding updated
-row-kept row x = go (row .used) (sameSource row x) (eqb (step row x) 0) (leb (2 ^ 31) (step row x))
+row-kept row x = go (row .used) (sameSource row x) (eqb (sequenceStep row x) 0) (leb (2 ^ 31) (sequenceStep row x))
   where
     go : (a b c e : Bool)
         → (cond a (cond b (cond c (answered Repeated row) (cond e (answered Backward row) (answered Entered (advanced row x)))) (answered OtherSource row)) (answered Entered (opened x)) .answer ≡ Entered)
@@ -60,28 +61,10 @@ table-kept rows x = go (ltb (rowFor x rows) (length rows)) (row-kept (getD rows 
 
 -- ---- 40 exactly when every row belongs to another source
 
--- past all rows, none passes
-first-none : (p : Row → Bool) (rows : List Row) → length rows ≤ firstRow p rows → (i : ℕ) → i < length rows → p (getD rows i freeRow) ≡ false
-unfolding firstRow
-first-none p [] h i l = absurd (omega arith)
-first-none p (row ∷ rows) h i l = go (p row) refl h i l (first-none p rows)
-  where
-    go : (b : Bool) → p row ≡ b → suc (length rows) ≤ cond b 0 (suc (firstRow p rows)) → (i : ℕ) → i < suc (length rows)
-        → (length rows ≤ firstRow p rows → (i : ℕ) → i < length rows → p (getD rows i freeRow) ≡ false) → p (getD (row ∷ rows) i freeRow) ≡ false
-    go true e h i l more = absurd (omega arith)
-    go false e h zero l more = e
-    go false e h (suc i) l more = more (omega arith) i (omega arith)
-
--- and where none passes, it is past all rows
-none-first : (p : Row → Bool) (rows : List Row) → ((i : ℕ) → i < length rows → p (getD rows i freeRow) ≡ false) → firstRow p rows ≡ length rows
-unfolding firstRow
-none-first p [] h = refl
-none-first p (row ∷ rows) h = rw (h 0 (omega arith)) (ap suc (none-first p rows (λ i l. h (suc i) (omega arith))))
-
 -- one row never answers that the table is full
 row-not-full : (row : Row) (x : FlowEntry) → updated row x .answer ≡ TableFull → ⊥
 unfolding updated
-row-not-full row x = go (row .used) (sameSource row x) (eqb (step row x) 0) (leb (2 ^ 31) (step row x))
+row-not-full row x = go (row .used) (sameSource row x) (eqb (sequenceStep row x) 0) (leb (2 ^ 31) (sequenceStep row x))
   where
     is-full : EntryAnswer → Bool
     is-full Entered = false
@@ -98,7 +81,7 @@ row-not-full row x = go (row .used) (sameSource row x) (eqb (step row x) 0) (leb
     go true true false true q = false≢true (ap is-full q)
     go true true false false q = false≢true (ap is-full q)
 
-used-told : (b : Bool) → not b ≡ false → b ≡ true
+pub used-told : (b : Bool) → not b ≡ false → b ≡ true
 used-told true e = refl
 used-told false e = sym e
 
@@ -128,17 +111,6 @@ full-exactly rows x = (to-rows, of-rows)
 
 -- ---- 43 is for a lent row alone: the table's own row of a sample is its source's or free
 
--- the lowest row that passes a test passes it
-first-passes : (p : Row → Bool) (rows : List Row) → firstRow p rows < length rows → p (getD rows (firstRow p rows) freeRow) ≡ true
-unfolding firstRow
-first-passes p [] h = absurd (omega arith)
-first-passes p (row ∷ rows) h = go (p row) refl h (first-passes p rows)
-  where
-    go : (b : Bool) → p row ≡ b → cond b 0 (suc (firstRow p rows)) < suc (length rows)
-        → (firstRow p rows < length rows → p (getD rows (firstRow p rows) freeRow) ≡ true) → p (getD (row ∷ rows) (cond b 0 (suc (firstRow p rows))) freeRow) ≡ true
-    go true e h more = e
-    go false e h more = more (omega arith)
-
 abbrev is-other : EntryAnswer → Bool
 is-other Entered = false
 is-other TableFull = false
@@ -149,7 +121,7 @@ is-other OtherSource = true
 -- a row of the sample's source, or a free one, is none of another source
 row-own : (row : Row) (x : FlowEntry) → (isOf (sourceOf x) row ≡ true) ⊎ (isFree row ≡ true) → updated row x .answer ≡ OtherSource → ⊥
 unfolding updated sameSource
-row-own row x = go (row .used) (same (rowSource row) (sourceOf x)) (eqb (step row x) 0) (leb (2 ^ 31) (step row x))
+row-own row x = go (row .used) (same (rowSource row) (sourceOf x)) (eqb (sequenceStep row x) 0) (leb (2 ^ 31) (sequenceStep row x))
   where
     go : (a b c e : Bool) → (a && b ≡ true) ⊎ (not a ≡ true)
         → cond a (cond b (cond c (answered Repeated row) (cond e (answered Backward row) (answered Entered (advanced row x)))) (answered OtherSource row)) (answered Entered (opened x)) .answer ≡ OtherSource → ⊥

@@ -4,3 +4,4 @@ pub mod Tables
 pub mod Sameness
 pub mod Theorems
 pub mod Answers
+pub mod Opening

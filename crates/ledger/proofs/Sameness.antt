@@ -76,3 +76,6 @@ same-either s t u e =
 
 pub same-back : (s t : Source) → same s t ≡ same t s
 same-back s t = bool-iff (same s t) (same t s) (λ f. key-same t s (sym (same-key s t f))) (λ f. key-same s t (sym (same-key t s f)))
+
+pub same-self : (s : Source) → same s s ≡ true
+same-self s = key-same s s refl

@@ -1,10 +1,10 @@
 -- The row of a table that a sample goes to, and the table afterwards. Assumes nothing.
-use Prim.Native.Nat.{ℕ, _+_, _≤_, _<_}
+use Prim.Native.Nat.{ℕ, zero, suc, _+_, _≤_, _<_}
 use native.Mathlib.Numerals.{add-one}
 use native.Mathlib.Omega.{arith}
-use mathlib.Core.Path.{_≡_, sym}
-use mathlib.Core.Bool.{Bool, true, false}
-use mathlib.Core.List.{List}
+use mathlib.Core.Path.{_≡_, refl, sym, ap}
+use mathlib.Core.Bool.{Bool, true, false, cond}
+use mathlib.Core.List.{List, [], _∷_}
 use lib.ListN.{length, getD, drop, drop-of-length-le}
 use lib.Seq.{drop-cons}
 use borrow.Author.Tests.{lt-ltb, le-ltb}
@@ -19,6 +19,38 @@ free row e = rw e
 
 pub not-free : (row : Row) → row .used ≡ true → isFree row ≡ false
 not-free row e = rw e
+
+-- ---- the lowest row that passes a test
+
+-- it passes
+pub first-passes : (p : Row → Bool) (rows : List Row) → firstRow p rows < length rows → p (getD rows (firstRow p rows) freeRow) ≡ true
+unfolding firstRow
+first-passes p [] h = absurd (omega arith)
+first-passes p (row ∷ rows) h = go (p row) refl h (first-passes p rows)
+  where
+    go : (b : Bool) → p row ≡ b → cond b 0 (suc (firstRow p rows)) < suc (length rows)
+        → (firstRow p rows < length rows → p (getD rows (firstRow p rows) freeRow) ≡ true)
+        → p (getD (row ∷ rows) (cond b 0 (suc (firstRow p rows))) freeRow) ≡ true
+    go true e h more = e
+    go false e h more = more (omega arith)
+
+-- past all rows, none passes
+pub first-none : (p : Row → Bool) (rows : List Row) → length rows ≤ firstRow p rows → (i : ℕ) → i < length rows → p (getD rows i freeRow) ≡ false
+unfolding firstRow
+first-none p [] h i l = absurd (omega arith)
+first-none p (row ∷ rows) h i l = go (p row) refl h i l (first-none p rows)
+  where
+    go : (b : Bool) → p row ≡ b → suc (length rows) ≤ cond b 0 (suc (firstRow p rows)) → (i : ℕ) → i < suc (length rows)
+        → (length rows ≤ firstRow p rows → (i : ℕ) → i < length rows → p (getD rows i freeRow) ≡ false) → p (getD (row ∷ rows) i freeRow) ≡ false
+    go true e h i l more = absurd (omega arith)
+    go false e h zero l more = e
+    go false e h (suc i) l more = more (omega arith) i (omega arith)
+
+-- and where none passes, it is past all rows
+pub none-first : (p : Row → Bool) (rows : List Row) → ((i : ℕ) → i < length rows → p (getD rows i freeRow) ≡ false) → firstRow p rows ≡ length rows
+unfolding firstRow
+none-first p [] h = refl
+none-first p (row ∷ rows) h = rw (h 0 (omega arith)) (ap suc (none-first p rows (λ i l. h (suc i) (omega arith))))
 
 -- ---- the lowest row that passes a test, from an index on
 

@@ -15,27 +15,16 @@ use Rattle.ledger.specs.declared.FlowEntry.{FlowEntry}
 use Rattle.ledger.specs.declared.Row.{Row}
 use Rattle.ledger.specs.declared.EntryAnswer.the-variants.{Entered, Repeated, Backward}
 use Rattle.ledger.specs.declared.RowEntered.{RowEntered}
-use Rattle.ledger.specs.Ledger.{Source, same, sourceOf, rowSource, sameSource, difference, step, answered, advanced, later, updated, isOf, isFree, firstRow, freeRow, entered}
-use Rattle.ledger.specs.Runs.{accepts, accepted, lostSum, poolSum, Lowest, Grown}
+use Rattle.ledger.specs.Ledger.{Source, same, sourceOf, rowSource, sameSource, difference, sequenceStep, answered, advanced, later, updated, isOf, isFree, firstRow, freeRow, entered}
+use Rattle.ledger.specs.Runs.{accepts, acceptedLater, lostSum, poolSum, Lowest, Grown}
 use Rattle.ledger.proofs.Updates.{opens, of-source}
 use Rattle.ledger.proofs.Sameness.{same-either, same-back}
+use Rattle.ledger.proofs.Tables.{first-passes}
 
 -- ---- the lowest row that passes a test
 
--- it passes
-first-passes : (p : Row → Bool) (rows : List Row) → firstRow p rows < length rows → p (getD rows (firstRow p rows) freeRow) ≡ true
-unfolding firstRow
-first-passes p [] h = absurd (omega arith)
-first-passes p (row ∷ rows) h = go (p row) refl h (first-passes p rows)
-  where
-    go : (b : Bool) → p row ≡ b → cond b 0 (suc (firstRow p rows)) < suc (length rows)
-        → (firstRow p rows < length rows → p (getD rows (firstRow p rows) freeRow) ≡ true)
-        → p (getD (row ∷ rows) (cond b 0 (suc (firstRow p rows))) freeRow) ≡ true
-    go true e h more = e
-    go false e h more = more (omega arith)
-
 -- another row with the same answer to the test moves nothing
-first-set : (p : Row → Bool) (rows : List Row) (j : ℕ) (r : Row) → p r ≡ p (getD rows j freeRow) → firstRow p (set rows j r) ≡ firstRow p rows
+pub first-set : (p : Row → Bool) (rows : List Row) (j : ℕ) (r : Row) → p r ≡ p (getD rows j freeRow) → firstRow p (set rows j r) ≡ firstRow p rows
 unfolding firstRow
 first-set p [] j r e = refl
 first-set p (row ∷ rows) zero r e = rw e
@@ -53,7 +42,7 @@ nonzero : (n : ℕ) → (n ≡ 0 → ⊥) → 0 < n
 nonzero zero h = absurd (h refl)
 nonzero (suc n) h = omega arith
 
-unused : (b : Bool) → not b ≡ true → b ≡ false
+pub unused : (b : Bool) → not b ≡ true → b ≡ false
 unused true h = sym h
 unused false h = refl
 
@@ -62,8 +51,8 @@ abbrev taken : ℕ → Bool
 taken n = ltb 0 n && ltb n (2 ^ 31)
 
 -- the row behind a later sample
-later-row : (row : Row) (x : FlowEntry) → later row x .row ≡ cond (taken (step row x)) (advanced row x) row
-later-row row x = go (step row x) (eqb (step row x) 0) (leb (2 ^ 31) (step row x)) refl refl
+later-row : (row : Row) (x : FlowEntry) → later row x .row ≡ cond (taken (sequenceStep row x)) (advanced row x) row
+later-row row x = go (sequenceStep row x) (eqb (sequenceStep row x) 0) (leb (2 ^ 31) (sequenceStep row x)) refl refl
   where
     go : (n : ℕ) (a b : Bool) → eqb n 0 ≡ a → leb (2 ^ 31) n ≡ b
         → cond a (answered Repeated row) (cond b (answered Backward row) (answered Entered (advanced row x))) .row ≡ cond (taken n) (advanced row x) row
@@ -78,16 +67,24 @@ later-row row x = go (step row x) (eqb (step row x) 0) (leb (2 ^ 31) (step row x
         rw (lt-ltb 0 n z, lt-ltb n (2 ^ 31) h)
 
 -- it belongs to the source that the row belonged to
-later-source : (s : Source) (row : Row) (x : FlowEntry) → row .used ≡ true → isOf s (later row x .row) ≡ isOf s row
-later-source s row x u = rw (later-row row x) (go (taken (step row x)))
+pub later-source : (s : Source) (row : Row) (x : FlowEntry) → row .used ≡ true → isOf s (later row x .row) ≡ isOf s row
+later-source s row x u = rw (later-row row x) (go (taken (sequenceStep row x)))
   where
     go : (b : Bool) → isOf s (cond b (advanced row x) row) ≡ isOf s row
     go true = rw u
     go false = refl
 
+-- and is in use as that was
+pub later-used : (row : Row) (x : FlowEntry) → row .used ≡ true → isFree (later row x .row) ≡ isFree row
+later-used row x u = rw (later-row row x) (go (taken (sequenceStep row x)))
+  where
+    go : (b : Bool) → isFree (cond b (advanced row x) row) ≡ isFree row
+    go true = rw u
+    go false = refl
+
 module _ (s : Source) (x : FlowEntry) (other : same s (sourceOf x) ≡ false) where
   -- a row of another source that takes the sample stays another's
-  own-other : (r : Row) → isOf (sourceOf x) r ≡ true → (isOf s r ≡ false) × (isOf s (updated r x .row) ≡ false)
+  pub own-other : (r : Row) → isOf (sourceOf x) r ≡ true → (isOf s r ≡ false) × (isOf s (updated r x .row) ≡ false)
   unfolding sameSource
   own-other r e =
       let p = and-parts (r .used) (same (rowSource r) (sourceOf x)) e in
@@ -96,7 +93,7 @@ module _ (s : Source) (x : FlowEntry) (other : same s (sourceOf x) ≡ false) wh
       (not-own, ap (λ (u : RowEntered). isOf s (u .row)) (sym (of-source r x (p .0) (p .1))) ∙ later-source s r x (p .0) ∙ not-own)
 
   -- so does a free row that it opens
-  free-other : (r : Row) → isFree r ≡ true → (isOf s r ≡ false) × (isOf s (updated r x .row) ≡ false)
+  pub free-other : (r : Row) → isFree r ≡ true → (isOf s r ≡ false) × (isOf s (updated r x .row) ≡ false)
   free-other r e =
       let u : r .used ≡ false = unused (r .used) e in
       (rw u, ap (λ (w : RowEntered). isOf s (w .row)) (sym (opens r x u)) ∙ same-back (sourceOf x) s ∙ other)
@@ -104,9 +101,9 @@ module _ (s : Source) (x : FlowEntry) (other : same s (sourceOf x) ≡ false) wh
 -- ---- a table
 
 -- what one sample leaves of a source's lowest row: it is still that, and has advanced exactly where the sample is an accepted later one
-record Stepped (s : Source) (rows : List Row) (i : ℕ) (x : FlowEntry) : Type 0 where
-  lowest : Lowest s (entered rows x .rows) i
-  row-is : getD (entered rows x .rows) i freeRow
+pub record Stepped (s : Source) (rows : List Row) (i : ℕ) (x : FlowEntry) : Type 0 where
+  pub lowest : Lowest s (entered rows x .rows) i
+  pub row-is : getD (entered rows x .rows) i freeRow
       ≡ cond (accepts s (getD rows i freeRow .«sequence_number») x) (advanced (getD rows i freeRow) x) (getD rows i freeRow)
 
 -- the lowest row of a source after another row, or that row, took another that belongs to the source exactly where the old one did
@@ -162,7 +159,7 @@ module _ (s : Source) (rows : List Row) (i : ℕ) (l : Lowest s rows i) (x : Flo
           step-elsewhere e j r (free-other s x e (getD rows j freeRow) (first-passes isFree rows (ltb-true _ _ g))) (rw (f, g))
       go false f false g = record { lowest = rw (f, g) l; row-is = rw (f, g, e) }
 
-  stepped : Stepped s rows i x
+  pub stepped : Stepped s rows i x
   stepped = go (same s (sourceOf x)) refl
     where
       go : (b : Bool) → same s (sourceOf x) ≡ b → Stepped s rows i x
@@ -178,18 +175,18 @@ sums total more rest = omega arith
 module _ (s : Source) (row : Row) (x : FlowEntry) (xs : List FlowEntry) where
   -- the sums behind a row that the next sample advanced, or left as it was
   lost-grows : (b : Bool) (r : Row) → r ≡ cond b (advanced row x) row
-      → (r .«lost_total» + lostSum (r .«sequence_number») (accepted s (r .«sequence_number») xs)) % 2 ^ 64
-      ≡ (row .«lost_total» + lostSum (row .«sequence_number») (cond b (x ∷ accepted s (x .words .«sequence_number») xs) (accepted s (row .«sequence_number») xs))) % 2 ^ 64
-  lost-grows true r e = rw e (sums (row .«lost_total») (step row x - 1) (lostSum (x .words .«sequence_number») (accepted s (x .words .«sequence_number») xs)))
+      → (r .«lost_total» + lostSum (r .«sequence_number») (acceptedLater s (r .«sequence_number») xs)) % 2 ^ 64
+      ≡ (row .«lost_total» + lostSum (row .«sequence_number») (cond b (x ∷ acceptedLater s (x .words .«sequence_number») xs) (acceptedLater s (row .«sequence_number») xs))) % 2 ^ 64
+  lost-grows true r e = rw e (sums (row .«lost_total») (sequenceStep row x - 1) (lostSum (x .words .«sequence_number») (acceptedLater s (x .words .«sequence_number») xs)))
   lost-grows false r e = rw e
 
   pool-grows : (b : Bool) (r : Row) → r ≡ cond b (advanced row x) row
-      → (r .«pool_total» + poolSum (r .«sample_pool») (accepted s (r .«sequence_number») xs)) % 2 ^ 64
-      ≡ (row .«pool_total» + poolSum (row .«sample_pool») (cond b (x ∷ accepted s (x .words .«sequence_number») xs) (accepted s (row .«sequence_number») xs))) % 2 ^ 64
+      → (r .«pool_total» + poolSum (r .«sample_pool») (acceptedLater s (r .«sequence_number») xs)) % 2 ^ 64
+      ≡ (row .«pool_total» + poolSum (row .«sample_pool») (cond b (x ∷ acceptedLater s (x .words .«sequence_number») xs) (acceptedLater s (row .«sequence_number») xs))) % 2 ^ 64
   pool-grows true r e =
       rw e
       (sums (row .«pool_total») (difference (x .words .«sample_pool») (row .«sample_pool»))
-      (poolSum (x .words .«sample_pool») (accepted s (x .words .«sequence_number») xs)))
+      (poolSum (x .words .«sample_pool») (acceptedLater s (x .words .«sequence_number») xs)))
   pool-grows false r e = rw e
 
 -- over any run of samples on any table: the totals of a source's lowest row grow by the sums over its accepted later samples, modulo 2 ^ 64

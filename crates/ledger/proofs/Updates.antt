@@ -7,13 +7,13 @@ use borrow.Author.Tests.{ne-eqb, le-leb, lt-leb}
 use Rattle.ledger.specs.declared.FlowEntry.{FlowEntry}
 use Rattle.ledger.specs.declared.Row.{Row}
 use Rattle.ledger.specs.declared.EntryAnswer.the-variants.{Entered, Repeated, Backward, OtherSource}
-use Rattle.ledger.specs.Ledger.{sameSource, difference, step, answered, opened, later, updated}
+use Rattle.ledger.specs.Ledger.{sameSource, difference, sequenceStep, answered, opened, later, updated}
 
 -- a number that wraps back to a when b is added to it is a minus b modulo 2 ^ 32
 pub wraps-back : (r a b : ℕ) → r < 2 ^ 32 → a < 2 ^ 32 → b < 2 ^ 32 → (r + b) % 2 ^ 32 ≡ a → difference a b ≡ r
 wraps-back r a b hr ha hb e = omega arith
 
-module _ (row : Row) (x : FlowEntry) (n : ℕ) (e : step row x ≡ n) where
+module _ (row : Row) (x : FlowEntry) (n : ℕ) (e : sequenceStep row x ≡ n) where
   pub repeats : n ≡ 0 → answered Repeated row ≡ later row x
   repeats z = rw (e, z)
 

@@ -13,12 +13,12 @@ use Rattle.ledger.specs.declared.RowEntered.{RowEntered}
 use Rattle.ledger.specs.declared.TableEntered.{TableEntered}
 
 -- the number of each answer; 0 where the sample is entered
-abbrev pub answerNumber : EntryAnswer → ℕ
-answerNumber Entered = 0
-answerNumber TableFull = 40
-answerNumber Repeated = 41
-answerNumber Backward = 42
-answerNumber OtherSource = 43
+abbrev pub entryNumber : EntryAnswer → ℕ
+entryNumber Entered = 0
+entryNumber TableFull = 40
+entryNumber Repeated = 41
+entryNumber Backward = 42
+entryNumber OtherSource = 43
 
 -- ---- sources
 
@@ -54,8 +54,8 @@ abbrev pub difference : ℕ → ℕ → ℕ
 difference a b = (a + 2 ^ 32 - b) % 2 ^ 32
 
 -- document 01's step: how far the sequence number went on
-abbrev pub step : Row → FlowEntry → ℕ
-step row x = difference (x .words .«sequence_number») (row .«sequence_number»)
+abbrev pub sequenceStep : Row → FlowEntry → ℕ
+sequenceStep row x = difference (x .words .«sequence_number») (row .«sequence_number»)
 
 -- a row that a new source opens: its sequence number and pool are kept, the totals are 0
 abbrev pub opened : FlowEntry → Row
@@ -79,7 +79,7 @@ advanced row x =
       «source_id» = row .«source_id»;
       «sequence_number» = x .words .«sequence_number»;
       «sample_pool» = x .words .«sample_pool»;
-      «lost_total» = (row .«lost_total» + (step row x - 1)) % 2 ^ 64;
+      «lost_total» = (row .«lost_total» + (sequenceStep row x - 1)) % 2 ^ 64;
       «pool_total» = (row .«pool_total» + difference (x .words .«sample_pool») (row .«sample_pool»)) % 2 ^ 64;
     }
 
@@ -89,8 +89,8 @@ answered answer row = record { answer = answer; row = row }
 -- a later sample of the row's source
 abbrev pub later : Row → FlowEntry → RowEntered
 later row x =
-    cond (eqb (step row x) 0) (answered Repeated row)
-    (cond (leb (2 ^ 31) (step row x)) (answered Backward row)
+    cond (eqb (sequenceStep row x) 0) (answered Repeated row)
+    (cond (leb (2 ^ 31) (sequenceStep row x)) (answered Backward row)
     (answered Entered (advanced row x)))
 
 -- one lent row: a free row opens, a row of another source is refused

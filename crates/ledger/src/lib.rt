@@ -3,7 +3,7 @@ use fields::address::Address;
 use fields::address::Quad;
 use reader::sample::FlowWords;
 ghost use mathlib.Core.Path.{_≡_};
-ghost use Rattle.ledger.specs.Ledger.{answerNumber, freeRow, sameAddress, sourceOf, sameSource, answered, opened, later, updated, firstRow, isOf, isFree, rowFor, entered};
+ghost use Rattle.ledger.specs.Ledger.{entryNumber, freeRow, sameAddress, sourceOf, sameSource, answered, opened, later, updated, firstRow, isOf, isFree, rowFor, entered};
 ghost use Rattle.ledger.specs.declared.EntryAnswer.the-variants.{Entered};
 
 // What the ledger takes of a flow sample: the agent's address, from the datagram's head, and the words that the sample begins with.
@@ -37,7 +37,7 @@ pub enum EntryAnswer {
 
 // Document 01's number of an answer; 0 where the sample is entered.
 pub fn answer_number(answer: EntryAnswer) -> u32
-    ensures { λ r. ⌜ r ≡ answerNumber answer ⌝ }
+    ensures { λ r. ⌜ r ≡ entryNumber answer ⌝ }
 {
     match answer {
         EntryAnswer::Entered => 0,
@@ -181,12 +181,27 @@ pub fn update(row: Row, x: FlowEntry) -> RowEntered
     open(x)
 }
 
-// A sample entered in a row that the caller lends.
+// A sample entered in a row that the caller lends: the row is taken apart, brought up to date by value, and its parts are stored back.
 pub fn update_row(row: &mut Row, x: FlowEntry) -> EntryAnswer
     ensures { λ r. ⌜ (r ≡ updated (now (row .entry)) x .answer) × (now (row .exit) ≡ updated (now (row .entry)) x .row) ⌝ }
 {
-    let e = update(*row, x);
-    *row = e.row;
+    let kept = Row {
+        used: row.used,
+        agent: row.agent,
+        source_id: row.source_id,
+        sequence_number: row.sequence_number,
+        sample_pool: row.sample_pool,
+        lost_total: row.lost_total,
+        pool_total: row.pool_total,
+    };
+    let e = update(kept, x);
+    row.used = e.row.used;
+    row.agent = e.row.agent;
+    row.source_id = e.row.source_id;
+    row.sequence_number = e.row.sequence_number;
+    row.sample_pool = e.row.sample_pool;
+    row.lost_total = e.row.lost_total;
+    row.pool_total = e.row.pool_total;
     e.answer
 }
 

@@ -8,15 +8,14 @@ use lib.ListN.{length, getD, set, take, drop, length-drop}
 use lib.Seq.{drop-cons, drop-drop, take-add, getD-set-same, set-getD}
 use lib.Dec.{leb, ltb, eqb}
 use borrow.Author.Tests.{ltb-true, ltb-false}
-use Rattle.xdr.specs.Writes.{stored}
+use Rattle.xdr.specs.Writes.{stored, Afterwards, afterwards}
 use Rattle.ledger.proofs.Tables.{no-row, one-row}
 use Rattle.ledger.specs.declared.FlowEntry.{FlowEntry}
 use Rattle.ledger.specs.declared.Row.{Row}
 use Rattle.ledger.specs.declared.EntryAnswer.the-variants.{Entered, TableFull, Repeated, Backward, OtherSource}
 use Rattle.ledger.specs.declared.RowEntered.{RowEntered}
 use Rattle.ledger.specs.declared.TableEntered.{TableEntered}
-use Rattle.ledger.specs.Ledger.{freeRow, sameSource, step, opened, advanced, answered, updated, rowFor, withRow, entered}
-use Rattle.numbers.specs.Reports.{Told, told}
+use Rattle.ledger.specs.Ledger.{freeRow, sameSource, sequenceStep, opened, advanced, answered, updated, rowFor, withRow, entered}
 use Rattle.ledger_calls.specs.LedgerTable.{rowIn, rowsIn, rowNumbers, numbersAfter, enteredTable, EntryWords, SampleWords}
 use Rattle.ledger_calls.proofs.LedgerTables.{rows-length, row-at, table-long}
 
@@ -116,7 +115,7 @@ module _ (ns : List ℕ) (x : FlowEntry) (w : SampleWords x) (long : 704 ≤ len
   row-brought : (row : Row) → row ≡ getD (rowsIn 64 ns) i freeRow
       → rowsIn 64 (numbersAfter (updated row x .answer) i (updated row x .row) ns) ≡ set (rowsIn 64 ns) i (updated row x .row)
   unfolding updated
-  row-brought row q = go (row .used) (sameSource row x) (eqb (step row x) 0) (leb (2 ^ 31) (step row x))
+  row-brought row q = go (row .used) (sameSource row x) (eqb (sequenceStep row x) 0) (leb (2 ^ 31) (sequenceStep row x))
     where
       stays : rowsIn 64 ns ≡ set (rowsIn 64 ns) i row
       stays = sym (ap (set (rowsIn 64 ns) i) q ∙ set-getD (rowsIn 64 ns) i freeRow)
@@ -136,11 +135,11 @@ module _ (ns : List ℕ) (x : FlowEntry) (w : SampleWords x) (long : 704 ≤ len
       go true true false true = stays
       go true true false false = rows-set 64 i ns (advanced row x) h long (advanced-words row x words w)
 
-abbrev array : Told → List ℕ
-array (told r ns) = ns
+abbrev array : Afterwards ℕ → List ℕ
+array (afterwards r ns) = ns
 
 -- the table after an entry is the ledger's: its rows are those that the sample entered in its rows leaves
-pub rows-after : (x : FlowEntry) (ns after : List ℕ) (r : ℕ) → SampleWords x → 704 ≤ length ns → told r after ≡ enteredTable x ns
+pub rows-after : (x : FlowEntry) (ns after : List ℕ) (r : ℕ) → SampleWords x → 704 ≤ length ns → afterwards r after ≡ enteredTable x ns
     → rowsIn 64 after ≡ entered (rowsIn 64 ns) x .rows
 rows-after x ns after r w long e = go (ltb (rowFor x (rowsIn 64 ns)) 64) refl
   where

@@ -11,7 +11,7 @@ use borrow.Rule.Slice.PartMut.{midOf, putMid}
 use borrow.Author.Tests.{le-leb, lt-leb, eq-eqb, ne-eqb}
 use types.Run.{OneOf, miss}
 use denote.Enum.Declared.{tagOf}
-use Rattle.xdr.specs.Writes.{stored}
+use Rattle.xdr.specs.Writes.{stored, Afterwards, afterwards}
 use Rattle.xdr.proofs.Writing.{stored-part}
 use Rattle.ledger.proofs.EntryAnswer.{the-type}
 use Rattle.ledger.proofs.Tables.{first-here, first-step, first-end, no-row, one-row}
@@ -21,8 +21,8 @@ use Rattle.ledger.specs.declared.EntryAnswer.{EntryAnswer}
 use Rattle.ledger.specs.declared.EntryAnswer.the-variants.{Entered, TableFull, Repeated, Backward, OtherSource}
 use Rattle.ledger.specs.declared.RowEntered.{RowEntered}
 use Rattle.ledger.specs.declared.TableEntered.{TableEntered}
-use Rattle.ledger.specs.Ledger.{answerNumber, freeRow, isFree, firstRow, rowFor, updated, withRow, entered}
-use Rattle.numbers.specs.Reports.{filled, Told, told}
+use Rattle.ledger.specs.Ledger.{entryNumber, freeRow, isFree, firstRow, rowFor, updated, withRow, entered}
+use Rattle.numbers.specs.Reports.{filled}
 use Rattle.ledger_calls.specs.LedgerTable.{rowIn, rowsIn, rowNumbers, numbersAfter, rowTold, rowOf, enteredTable}
 use Rattle.numbers.proofs.Reports.{filled-whole, telling, part-is}
 
@@ -100,18 +100,18 @@ module _ (ns : List ℕ) (i : ℕ) (row : Row) (x : FlowEntry) (q : row ≡ rowI
   brought = ap (λ (k : RowEntered). rowTold k i ns) (u ∙ ap (λ (r : Row). updated r x) (q ∙ ap rowIn (part-is (11 * i) ns)))
 
   -- a refusal leaves the table
-  pub row-refused : {r : ℕ} → OneOf (1 ∷ 2 ∷ 3 ∷ 4 ∷ []) (tagOf the-type (e .answer)) → r ≡ answerNumber (e .answer)
-      → told r ns ≡ rowTold (updated (rowIn (drop (11 * i) ns)) x) i ns
+  pub row-refused : {r : ℕ} → OneOf (1 ∷ 2 ∷ 3 ∷ 4 ∷ []) (tagOf the-type (e .answer)) → r ≡ entryNumber (e .answer)
+      → afterwards r ns ≡ rowTold (updated (rowIn (drop (11 * i) ns)) x) i ns
   row-refused o n = telling n (refusal (e .answer) i (e .row) ns o) ∙ brought
 
   -- a sample entered, and the row stored
   pub row-entered : {now : List ℕ} → e .answer ≡ Entered → now ≡ stored ns (11 * i) (rowNumbers (e .row))
-      → told 0 now ≡ rowTold (updated (rowIn (drop (11 * i) ns)) x) i ns
-  row-entered a s = telling (ap answerNumber (sym a)) (s ∙ ap (λ (t : EntryAnswer). numbersAfter t i (e .row) ns) (sym a)) ∙ brought
+      → afterwards 0 now ≡ rowTold (updated (rowIn (drop (11 * i) ns)) x) i ns
+  row-entered a s = telling (ap entryNumber (sym a)) (s ∙ ap (λ (t : EntryAnswer). numbersAfter t i (e .row) ns) (sym a)) ∙ brought
 
 -- ---- a sample entered
 
-pub table-short : (x : FlowEntry) (ns : List ℕ) → length ns < 704 → told 99 ns ≡ enteredTable x ns
+pub table-short : (x : FlowEntry) (ns : List ℕ) → length ns < 704 → afterwards 99 ns ≡ enteredTable x ns
 unfolding enteredTable
 table-short x ns h = rw (lt-leb 704 (length ns) h) refl
 
@@ -122,14 +122,14 @@ unfolding enteredTable
 table-long x ns i e h k q = rw (le-leb 704 (length ns) h, sym k, sym q) refl
 
 module _ (x : FlowEntry) (ns : List ℕ) (long : 704 ≤ length ns) (i : ℕ) (k : i ≡ rowFor x (rowsIn 64 ns)) where
-  pub table-full : 64 ≤ i → told 40 ns ≡ enteredTable x ns
+  pub table-full : 64 ≤ i → afterwards 40 ns ≡ enteredTable x ns
   table-full h = table-long x ns i (record { answer = TableFull; rows = rowsIn 64 ns }) long k (no-row (rowsIn 64 ns) x (rows-length 64 ns) i k h)
 
-  pub table-entered : {t : Told} → i < 64 → t ≡ rowTold (updated (rowIn (drop (11 * i) ns)) x) i ns → t ≡ enteredTable x ns
+  pub table-entered : {t : Afterwards ℕ} → i < 64 → t ≡ rowTold (updated (rowIn (drop (11 * i) ns)) x) i ns → t ≡ enteredTable x ns
   table-entered h q =
       let u : RowEntered = updated (getD (rowsIn 64 ns) i freeRow) x in
       let inside : i < length (rowsIn 64 ns) = rw (rows-length 64 ns) h in
       let row : u .row ≡ getD (set (rowsIn 64 ns) i (u .row)) i freeRow = sym (getD-set-same (rowsIn 64 ns) i (u .row) freeRow inside) in
       q ∙ ap (λ (r : Row). rowTold (updated r x) i ns) (sym (row-at 64 i ns h))
-      ∙ ap (λ (r : Row). told (answerNumber (u .answer)) (numbersAfter (u .answer) i r ns)) row
+      ∙ ap (λ (r : Row). afterwards (entryNumber (u .answer)) (numbersAfter (u .answer) i r ns)) row
       ∙ table-long x ns i (withRow (rowsIn 64 ns) i u) long k (one-row (rowsIn 64 ns) x (rows-length 64 ns) i k h u refl)

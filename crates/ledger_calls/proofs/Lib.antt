@@ -1,2 +1,3 @@
 pub mod LedgerTables
 pub mod LedgerRows
+pub mod EntryNumbers

@@ -4,7 +4,7 @@ use mathlib.Core.Bool.{not, cond}
 use mathlib.Core.List.{List, [], _∷_}
 use lib.ListN.{length, getD, drop}
 use lib.Dec.{leb, eqb}
-use Rattle.xdr.specs.Writes.{stored}
+use Rattle.xdr.specs.Writes.{stored, Afterwards, afterwards}
 use Rattle.fields.specs.declared.address.Address.{Address}
 use Rattle.ledger.specs.declared.FlowEntry.{FlowEntry}
 use Rattle.ledger.specs.declared.Row.{Row}
@@ -12,8 +12,7 @@ use Rattle.ledger.specs.declared.EntryAnswer.{EntryAnswer}
 use Rattle.ledger.specs.declared.EntryAnswer.the-variants.{Entered, TableFull, Repeated, Backward, OtherSource}
 use Rattle.ledger.specs.declared.RowEntered.{RowEntered}
 use Rattle.ledger.specs.declared.TableEntered.{TableEntered}
-use Rattle.ledger.specs.Ledger.{answerNumber, freeRow, rowFor, entered}
-use Rattle.numbers.specs.Reports.{Told, told}
+use Rattle.ledger.specs.Ledger.{entryNumber, freeRow, rowFor, entered}
 use Rattle.numbers.specs.Addresses.{addressWith}
 
 -- ---- rows as numbers
@@ -88,20 +87,20 @@ numbersAfter Backward i row ns = ns
 numbersAfter OtherSource i row ns = ns
 
 -- the number of the answer, and the numbers afterwards, of row i brought up to date
-abbrev pub rowTold : RowEntered → ℕ → List ℕ → Told
-rowTold e i ns = told (answerNumber (e .answer)) (numbersAfter (e .answer) i (e .row) ns)
+abbrev pub rowTold : RowEntered → ℕ → List ℕ → Afterwards ℕ
+rowTold e i ns = afterwards (entryNumber (e .answer)) (numbersAfter (e .answer) i (e .row) ns)
 
 -- row i of a table afterwards, with the answer
 abbrev pub rowOf : TableEntered → ℕ → RowEntered
 rowOf e i = record { answer = e .answer; row = getD (e .rows) i freeRow }
 
 -- a sample entered in the rows that numbers are: the number of the answer, and the numbers afterwards
-abbrev pub rowsTold : List Row → FlowEntry → List ℕ → Told
+abbrev pub rowsTold : List Row → FlowEntry → List ℕ → Afterwards ℕ
 rowsTold rows x ns = rowTold (rowOf (entered rows x) (rowFor x rows)) (rowFor x rows) ns
 
 -- a sample entered in the table that numbers begin with; 99, which document 01 does not have, where they are fewer than 704
-unfoldable pub enteredTable : FlowEntry → List ℕ → Told
-enteredTable x ns = cond (leb 704 (length ns)) (rowsTold (rowsIn 64 ns) x ns) (told 99 ns)
+unfoldable pub enteredTable : FlowEntry → List ℕ → Afterwards ℕ
+enteredTable x ns = cond (leb 704 (length ns)) (rowsTold (rowsIn 64 ns) x ns) (afterwards 99 ns)
 
 -- ---- words
 

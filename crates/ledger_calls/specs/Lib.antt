@@ -1,1 +1,2 @@
 pub mod LedgerTable
+pub mod EntryNumbers

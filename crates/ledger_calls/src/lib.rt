@@ -11,8 +11,9 @@ ghost use mathlib.Core.Path.{_≡_};
 ghost use mathlib.Core.Bool.{cond, not};
 ghost use lib.Dec.{eqb};
 ghost use lib.ListN.{length, drop};
+ghost use Rattle.xdr.specs.Writes.{afterwards};
 ghost use Rattle.ledger.specs.Ledger.{sourceOf, updated, isOf, isFree, firstRow, rowFor};
-ghost use Rattle.numbers.specs.Reports.{filled, told};
+ghost use Rattle.numbers.specs.Reports.{filled};
 ghost use Rattle.numbers.specs.Addresses.{addressWith};
 ghost use Rattle.ledger_calls.specs.LedgerTable.{agentIn, rowIn, rowsIn, rowNumbers, flowEntry, rowTold, enteredTable};
 
@@ -155,7 +156,7 @@ fn flow_entry(agent: Address, source_id: u32, sequence_number: u32, sample_pool:
 // Enters a sample in row i: the number of the answer; where the sample is entered, the row's numbers are stored.
 fn enter_row(table: &mut [u64], i: usize, x: FlowEntry) -> u32
     requires { ⌜ (704 ≤ length (now table)) × (i < 64) ⌝ }
-    ensures { λ r. ⌜ told r (now (table .exit)) ≡ rowTold (updated (rowIn (drop (11 * i) (now (table .entry)))) x) i (now (table .entry)) ⌝ }
+    ensures { λ r. ⌜ afterwards r (now (table .exit)) ≡ rowTold (updated (rowIn (drop (11 * i) (now (table .entry)))) x) i (now (table .entry)) ⌝ }
 {
     let row = row_in(&table[11 * i..]);
     let e = ledger::update(row, x);
@@ -185,7 +186,7 @@ pub fn enter(
     sequence_number: u32,
     sample_pool: u32,
 ) -> u32
-    ensures { λ r. ⌜ told r (now (table .exit))
+    ensures { λ r. ⌜ afterwards r (now (table .exit))
         ≡ enteredTable (flowEntry (addressWith «agent_type» a b c d) «source_id» «sequence_number» «sample_pool») (now (table .entry)) ⌝ }
 {
     if table.len() < 704 {

@@ -1,1 +1,2 @@
 pub mod ListedLines
+pub mod LineNumbers

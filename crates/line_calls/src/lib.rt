@@ -10,9 +10,10 @@ ghost use mathlib.Core.Path.{_≡_};
 ghost use mathlib.Core.Bool.{not};
 ghost use lib.ListN.{length};
 ghost use lib.Dec.{eqb};
+ghost use Rattle.xdr.specs.Writes.{afterwards};
 ghost use Rattle.record_lines.specs.Lines.{writeLine};
 ghost use Rattle.listing.specs.Texts.{endLines};
-ghost use Rattle.numbers.specs.Reports.{told, tell, handed};
+ghost use Rattle.numbers.specs.Reports.{tell, handed};
 ghost use Rattle.line_calls.specs.ListedLines.{stopNumber, stateIn, placeReport, listedLines, countedTo, endedAt};
 
 // The number of what stopped the listing.
@@ -42,7 +43,7 @@ fn state_in(state: &[u64]) -> State
 
 // The number of what stopped the listing; the place's numbers go into the state.
 fn put_place(state: &mut [u64], place: Place) -> u32
-    ensures { λ r. ⌜ told r (now (state .exit)) ≡ tell (placeReport place) (now (state .entry)) ⌝ }
+    ensures { λ r. ⌜ afterwards r (now (state .exit)) ≡ tell (placeReport place) (now (state .entry)) ⌝ }
 {
     let after = place.state;
     let stop = place.stop;

@@ -11,9 +11,9 @@ use Rattle.sflow.specs.Reading.{readDatagram}
 use Rattle.reader.specs.Datagrams.{stepAt, walk}
 use Rattle.record_lines.specs.Digits.{decimal, shown}
 use Rattle.record_lines.specs.Lines.{ending, sourceText, sampleText, sampleLine, dotted, agentText, agentLine, refusedLine, badLine, lastLine}
-use Rattle.record_lines.specs.Records.{headOf, recordLines}
-use Rattle.listing.specs.Captures.{recordOf}
-use Rattle.listing.specs.Texts.{start, behindRecord, textOf, textWithin, textFrom, captureOf}
+use Rattle.record_lines.specs.Records.{recordLines}
+use Rattle.listing.specs.Captures.{frameOf}
+use Rattle.listing.specs.Texts.{nothingListed, behindRecord, recordText, textWithin, textFrom, captureOf}
 
 -- case 7: agent 10.0.0.7, sequence 1, uptime 1000, one VLAN counter sample with sequence 5, source 01000064, interval 20, vlan 100, the rest 0
 abbrev case7 : List ℕ
@@ -54,8 +54,8 @@ abbrev oneRefused : List ℕ
 oneRefused = 114 ∷ 101 ∷ 99 ∷ 111 ∷ 114 ∷ 100 ∷ 115 ∷ 32 ∷ 49 ∷ 32 ∷ 114 ∷ 101 ∷ 102 ∷ 117 ∷ 115 ∷ 101 ∷ 100 ∷ 32 ∷ 49 ∷ 32 ∷ 115 ∷ 97 ∷ 109 ∷ 112 ∷ 108 ∷ 101 ∷ 115 ∷ 32 ∷ 48 ∷ 10 ∷ []
 
 -- case 7's datagram, and then the word 5; an empty capture; the word 5, and then a single octet of a record
-pub examples : (textFrom start (captureOf (case7 ∷ (0 ∷ 0 ∷ 0 ∷ 5 ∷ []) ∷ [])) ≡ first ++ second ++ third ++ fourth)
-    × (textFrom start [] ≡ nothing)
-    × (textFrom start (captureOf ((0 ∷ 0 ∷ 0 ∷ 5 ∷ []) ∷ []) ++ (115 ∷ [])) ≡ refusedFirst ++ badAtEight ++ oneRefused)
-unfolding readDatagram decode entries encode octetsOfEach octetsOf wordAt itemsAt numbersAt numberAt stepAt walk decimal shown ending sourceText sampleText sampleLine dotted agentText agentLine refusedLine badLine lastLine headOf recordLines recordOf behindRecord textOf textWithin textFrom
+pub examples : (textFrom nothingListed (captureOf (case7 ∷ (0 ∷ 0 ∷ 0 ∷ 5 ∷ []) ∷ [])) ≡ first ++ second ++ third ++ fourth)
+    × (textFrom nothingListed [] ≡ nothing)
+    × (textFrom nothingListed (captureOf ((0 ∷ 0 ∷ 0 ∷ 5 ∷ []) ∷ []) ++ (115 ∷ [])) ≡ refusedFirst ++ badAtEight ++ oneRefused)
+unfolding readDatagram decode entries encode octetsOfEach octetsOf wordAt itemsAt numbersAt numberAt stepAt walk decimal shown ending sourceText sampleText sampleLine dotted agentText agentLine refusedLine badLine lastLine recordLines frameOf behindRecord recordText textWithin textFrom
 examples = (refl, refl, refl)

@@ -5,9 +5,10 @@ use mathlib.Core.Path.{_≡_, refl, sym, ap, subst}
 use mathlib.Core.Bool.{Bool, true, false, cond}
 use mathlib.Core.List.{List, _++_}
 use lib.ListN.{length, drop, length-append}
-use Rattle.xdr.specs.Writes.{stored}
-use Rattle.record_lines.specs.Records.{Listing, listing, listRecord}
-use Rattle.listing.specs.Captures.{recordOf, datagramIn, more, placed, Placed, onFrame, onListing, goOn, stepAt, isOver, listFrom, listAll, begins}
+use Rattle.record_lines.specs.declared.Listed.{Listed}
+use Rattle.xdr.specs.Writes.{stored, Afterwards, afterwards}
+use Rattle.record_lines.specs.Records.{listRecord}
+use Rattle.listing.specs.Captures.{frameOf, datagramIn, more, onFrame, onListing, goOn, listStep, isOver, listFrom, listAll, begins}
 use Rattle.record_lines.specs.declared.Listed.the-variants.{Accepted, Refused, NoRoom}
 use Rattle.listing.specs.declared.Frame.{Frame}
 use Rattle.listing.specs.declared.Frame.the-variants.{Whole, Short, Wrong}
@@ -16,19 +17,19 @@ use Rattle.listing.specs.declared.Place.{Place}
 use Rattle.listing.proofs.Captures.{whole-at}
 use Rattle.listing.proofs.Texts.{Told, list-all-told}
 
-abbrev Inside : List ℕ → Placed → Type 0
-Inside s (placed q e) = q .at ≤ length s
+abbrev Inside : List ℕ → Afterwards Place → Type 0
+Inside s (afterwards q e) = q .at ≤ length s
 
-step-inside : (d s : List ℕ) (p : Place) → p .at ≤ length s → Inside s (stepAt d s p)
-unfolding stepAt
-step-inside d s p h = on-frame (recordOf (drop (p .at) s)) refl
+step-inside : (d s : List ℕ) (p : Place) → p .at ≤ length s → Inside s (listStep d s p)
+unfolding listStep
+step-inside d s p h = on-frame (frameOf (drop (p .at) s)) refl
   where
-    on-listing : (n : ℕ) → p .at + (4 + n) ≤ length s → (l : Listing) → Inside s (onListing p (4 + n) l)
-    on-listing n k (listing NoRoom e) = h
-    on-listing n k (listing (Refused out) e) = k
-    on-listing n k (listing (Accepted out count) e) = k
+    on-listing : (n : ℕ) → p .at + (4 + n) ≤ length s → (l : Afterwards Listed) → Inside s (onListing p (4 + n) l)
+    on-listing n k (afterwards NoRoom e) = h
+    on-listing n k (afterwards (Refused out) e) = k
+    on-listing n k (afterwards (Accepted out count) e) = k
 
-    on-frame : (f : Frame) → recordOf (drop (p .at) s) ≡ f → Inside s (onFrame d (drop (p .at) s) p f)
+    on-frame : (f : Frame) → frameOf (drop (p .at) s) ≡ f → Inside s (onFrame d (drop (p .at) s) p f)
     on-frame Short e = h
     on-frame Wrong e = h
     on-frame (Whole n) e =
@@ -38,18 +39,18 @@ step-inside d s p h = on-frame (recordOf (drop (p .at) s)) refl
 from-inside : (n : ℕ) (d s : List ℕ) (p : Place) → p .at ≤ length s → Inside s (listFrom n d s p)
 unfolding listFrom
 from-inside zero d s p h = h
-from-inside (suc n) d s p h = go (stepAt d s p) (step-inside d s p h) λ e q k. from-inside n e s q k
+from-inside (suc n) d s p h = go (listStep d s p) (step-inside d s p h) λ e q k. from-inside n e s q k
   where
-    on : (q : Place) (e : List ℕ) (b : Bool) → q .at ≤ length s → Inside s (listFrom n e s q) → Inside s (cond b (placed q e) (listFrom n e s q))
+    on : (q : Place) (e : List ℕ) (b : Bool) → q .at ≤ length s → Inside s (listFrom n e s q) → Inside s (cond b (afterwards q e) (listFrom n e s q))
     on q e true k r = k
     on q e false k r = r
 
-    go : (w : Placed) → Inside s w → ((e : List ℕ) (q : Place) → q .at ≤ length s → Inside s (listFrom n e s q))
+    go : (w : Afterwards Place) → Inside s w → ((e : List ℕ) (q : Place) → q .at ≤ length s → Inside s (listFrom n e s q))
         → Inside s (goOn w λ e q. listFrom n e s q)
-    go (placed q e) k r = on q e (isOver (q .stop)) k (r e q k)
+    go (afterwards q e) k r = on q e (isOver (q .stop)) k (r e q k)
 
 -- no more octets are listed than the buffer has
-pub listed-inside : (d s : List ℕ) (t : State) (q : Place) (e : List ℕ) → placed q e ≡ listAll d s t → q .at ≤ length s
+pub listed-inside : (d s : List ℕ) (t : State) (q : Place) (e : List ℕ) → afterwards q e ≡ listAll d s t → q .at ≤ length s
 unfolding listAll
 listed-inside d s t q e h = subst (Inside s) (sym h) (from-inside (length s) d s (begins t) (omega arith))
 
@@ -62,7 +63,7 @@ stored-inside d e xs h k =
     omega arith
 
 -- no more octets are written than the output has
-pub written-inside : (d s : List ℕ) (t : State) (q : Place) (e : List ℕ) → placed q e ≡ listAll d s t → length e ≡ length d → q .out ≤ length d
+pub written-inside : (d s : List ℕ) (t : State) (q : Place) (e : List ℕ) → afterwards q e ≡ listAll d s t → length e ≡ length d → q .out ≤ length d
 written-inside d s t q e h k =
     let a = subst (Told d s (begins t)) (sym h) (list-all-told d s t) in
     let i = a .out-is in

@@ -1,4 +1,5 @@
 pub mod Captures
 pub mod Texts
 pub mod Inside
+pub mod Stops
 pub mod Example

@@ -4,11 +4,11 @@ use xdr::Written;
 ghost use mathlib.Core.Path.{_≡_};
 ghost use Prim.Native.Nat.{_+_, _≤_};
 ghost use lib.ListN.{length, take, drop};
-ghost use Rattle.xdr.specs.Writes.{wrote};
+ghost use Rattle.xdr.specs.Writes.{afterwards};
 ghost use Rattle.record_lines.specs.Lines.{writeLine};
-ghost use Rattle.record_lines.specs.Records.{listing, listRecord};
+ghost use Rattle.record_lines.specs.Records.{listRecord};
 ghost use Rattle.listing.specs.declared.Frame.the-variants.{Whole};
-ghost use Rattle.listing.specs.Captures.{recordOf, accepted, refused, stoppedAs, placed, stepAt, isOver, listAll};
+ghost use Rattle.listing.specs.Captures.{frameOf, countAccepted, countRefused, stoppedAs, listStep, isOver, listAll};
 ghost use Rattle.listing.specs.Texts.{endLines};
 
 // What a part of a capture begins with.
@@ -29,7 +29,7 @@ fn wide(x: u8) -> usize
 
 // The record at an offset.
 pub fn frame_at(s: &[u8], at: usize) -> Frame
-    ensures { λ r. ⌜ r ≡ recordOf (drop at (now (s .entry))) ⌝ }
+    ensures { λ r. ⌜ r ≡ frameOf (drop at (now (s .entry))) ⌝ }
 {
     if s.len() < at {
         return Frame::Short;
@@ -63,6 +63,7 @@ pub struct State {
 
 // Why listing stopped, or that it goes on.
 pub enum Stop {
+    // between two records: no answer of list_records
     GoesOn,
     // what is left of the buffer is no whole record
     NoRecord,
@@ -94,7 +95,7 @@ fn stopped(p: Place, stop: Stop) -> Place
 
 // The state behind an accepted record of so many octets and samples.
 fn count_accepted(t: State, taken: usize, n: u32) -> State
-    ensures { λ r. ⌜ r ≡ accepted t taken n ⌝ }
+    ensures { λ r. ⌜ r ≡ countAccepted t taken n ⌝ }
 {
     State {
         offset: std::num::wrapping_add_u64(t.offset, taken as u64),
@@ -106,7 +107,7 @@ fn count_accepted(t: State, taken: usize, n: u32) -> State
 
 // The state behind a refused record.
 fn count_refused(t: State, taken: usize) -> State
-    ensures { λ r. ⌜ r ≡ refused t taken ⌝ }
+    ensures { λ r. ⌜ r ≡ countRefused t taken ⌝ }
 {
     State {
         offset: std::num::wrapping_add_u64(t.offset, taken as u64),
@@ -119,15 +120,15 @@ fn count_refused(t: State, taken: usize) -> State
 // Lists the record whose datagram is so many octets of the buffer.
 fn list_part(d: &mut [u8], at: usize, index: u64, s: &[u8], start: usize, n: usize) -> Listed
     requires { ⌜ start + n ≤ length (now s) ⌝ }
-    ensures { λ r. ⌜ listing r (now (d .exit)) ≡ listRecord (now (d .entry)) at index (take n (drop start (now (s .entry)))) ⌝ }
+    ensures { λ r. ⌜ afterwards r (now (d .exit)) ≡ listRecord (now (d .entry)) at index (take n (drop start (now (s .entry)))) ⌝ }
 {
     record_lines::list_record(d, at, index, &s[start..start + n])
 }
 
 // The place behind a whole record.
 fn list_whole(d: &mut [u8], s: &[u8], p: Place, n: usize) -> Place
-    requires { ⌜ (recordOf (drop (p .at) (now s)) ≡ Whole n) × (p .at + 4 + n ≤ length (now s)) ⌝ }
-    ensures { λ r. ⌜ placed r (now (d .exit)) ≡ stepAt (now (d .entry)) (now (s .entry)) p ⌝ }
+    requires { ⌜ (frameOf (drop (p .at) (now s)) ≡ Whole n) × (p .at + 4 + n ≤ length (now s)) ⌝ }
+    ensures { λ r. ⌜ afterwards r (now (d .exit)) ≡ listStep (now (d .entry)) (now (s .entry)) p ⌝ }
 {
     let index = std::num::wrapping_add_u64(p.state.records, 1);
     let state = p.state;
@@ -150,7 +151,7 @@ fn list_whole(d: &mut [u8], s: &[u8], p: Place, n: usize) -> Place
 
 // Lists the record at a place.
 fn step(d: &mut [u8], s: &[u8], p: Place) -> Place
-    ensures { λ r. ⌜ placed r (now (d .exit)) ≡ stepAt (now (d .entry)) (now (s .entry)) p ⌝ }
+    ensures { λ r. ⌜ afterwards r (now (d .exit)) ≡ listStep (now (d .entry)) (now (s .entry)) p ⌝ }
 {
     match frame_at(s, p.at) {
         Frame::Short => stopped(p, Stop::NoRecord),
@@ -172,7 +173,7 @@ fn is_over(stop: Stop) -> bool
 
 // Lists all whole records of a buffer, as far as the output has room.
 pub fn list_records(d: &mut [u8], s: &[u8], begin: State) -> Place
-    ensures { λ r. ⌜ placed r (now (d .exit)) ≡ listAll (now (d .entry)) (now (s .entry)) begin ⌝ }
+    ensures { λ r. ⌜ afterwards r (now (d .exit)) ≡ listAll (now (d .entry)) (now (s .entry)) begin ⌝ }
 {
     let mut p = Place {
         at: 0,
@@ -189,12 +190,12 @@ pub fn list_records(d: &mut [u8], s: &[u8], begin: State) -> Place
         }
         turns -= 1;
     }
-    p
+    stopped(p, Stop::NoRecord)
 }
 
 // What follows the last record: where the capture goes wrong there, the line that says so, then the last line; 123 octets of room are asked for.
 pub fn end_lines(d: &mut [u8], at: usize, t: State, bad: bool) -> Written
-    ensures { λ r. ⌜ wrote r (now (d .exit)) ≡ writeLine 123 (now (d .entry)) at (endLines t bad) ⌝ }
+    ensures { λ r. ⌜ afterwards r (now (d .exit)) ≡ writeLine 123 (now (d .entry)) at (endLines t bad) ⌝ }
 {
     record_lines::closing_lines(d, at, bad, t.offset, t.records, t.refused, t.samples)
 }

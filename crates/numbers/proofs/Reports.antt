@@ -6,7 +6,8 @@ use mathlib.Core.Path.{_≡_, refl, ap, sym, _∙_}
 use mathlib.Core.List.{List, [], _∷_, _++_, append-nil}
 use lib.ListN.{length, take, drop, set, getD, length-drop}
 use lib.Seq.{take-all, take-length, take-nil, drop-length, drop-nil}
-use Rattle.numbers.specs.Reports.{filled, filledBehind, told}
+use Rattle.xdr.specs.Writes.{afterwards}
+use Rattle.numbers.specs.Reports.{filled, filledBehind}
 
 -- a store extends the numbers put so far
 pub copy-step : (xs d : List ℕ) (i : ℕ) → i < length xs → i < length d → set (take i xs ++ drop i d) i (getD xs i 0) ≡ take (suc i) xs ++ drop (suc i) d
@@ -31,7 +32,7 @@ unfolding filled
 filled-part xs d h = rw (drop-beyond (length xs) d h, drop-length d) refl
 
 -- a number and an array, each known
-pub telling : {a b : ℕ} {x y : List ℕ} → a ≡ b → x ≡ y → told a x ≡ told b y
+pub telling : {a b : ℕ} {x y : List ℕ} → a ≡ b → x ≡ y → afterwards a x ≡ afterwards b y
 telling e f = rw (e, f) refl
 
 -- nothing is put into an empty array

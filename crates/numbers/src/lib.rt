@@ -4,7 +4,8 @@ ghost use Prim.Native.Nat.{_≤_};
 ghost use mathlib.Core.Path.{_≡_};
 ghost use mathlib.Core.List.{_++_};
 ghost use lib.ListN.{length, take, drop};
-ghost use Rattle.numbers.specs.Reports.{filled, filledBehind, told, tell, refusalReport};
+ghost use Rattle.xdr.specs.Writes.{afterwards};
+ghost use Rattle.numbers.specs.Reports.{filled, filledBehind, tell, refusalReport};
 
 // Puts the first n numbers to the front of an array.
 fn copy(out: &mut [u64], xs: &[u64], n: usize)
@@ -41,7 +42,7 @@ pub fn fill_behind(out: &mut [u64], n: usize, xs: &[u64])
 
 // A refusal's number; the array takes its offset.
 pub fn refuse(why: Refusal, p: usize, out: &mut [u64]) -> u32
-    ensures { λ r. ⌜ told r (now (out .exit)) ≡ tell (refusalReport why p) (now (out .entry)) ⌝ }
+    ensures { λ r. ⌜ afterwards r (now (out .exit)) ≡ tell (refusalReport why p) (now (out .entry)) ⌝ }
 {
     fill(out, &[p as u64]);
     sflow::refusal_number(why)

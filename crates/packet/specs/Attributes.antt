@@ -2,10 +2,11 @@
 use Prim.Native.Nat.{ℕ, _+_, _*_, _/_, _%_}
 use mathlib.Core.List.{List, [], _∷_}
 use mathlib.Core.Bool.{Bool, cond, _&&_, _||_}
-use lib.ListN.{length, getD, drop}
+use lib.ListN.{length, drop}
 use lib.Dec.{leb, eqb}
 use Rattle.xdr.specs.Numbers.{numberAt}
 use Rattle.sflow.specs.Grammar.{case, chosen}
+use Rattle.fields.specs.Parts.{item}
 use Rattle.fields.specs.Strings.{textIn}
 use Rattle.packet_data.specs.declared.PacketData.{PacketData}
 use Rattle.packet_data.specs.declared.PacketData.the-variants.{Header, Ipv4, Ipv6}
@@ -18,11 +19,11 @@ use Rattle.packet.specs.declared.Attributes.{Attributes}
 
 -- in octets: the low four bits of the first octet are words
 abbrev pub headerSize : List ℕ → ℕ
-headerSize x = getD x 0 0 % 16 * 4
+headerSize x = item x 0 % 16 * 4
 
 -- 20 octets are there, the version is 4, and the header length is at least 20 and present
 abbrev pub isIpv4 : List ℕ → Bool
-isIpv4 x = leb 20 (length x) && (eqb (getD x 0 0 / 16) 4 && (leb 20 (headerSize x) && leb (headerSize x) (length x)))
+isIpv4 x = leb 20 (length x) && (eqb (item x 0 / 16) 4 && (leb 20 (headerSize x) && leb (headerSize x) (length x)))
 
 abbrev pub noPorts : Ports
 noPorts = record { source = 0; dest = 0 }
@@ -45,8 +46,8 @@ ipv4View x =
       «peer_type» = 1;
       «source_address» = numberAt x 12 4;
       «dest_address» = numberAt x 16 4;
-      protocol = getD x 9 0;
-      ports = portsOf x (getD x 9 0) (headerSize x);
+      protocol = item x 9;
+      ports = portsOf x (item x 9) (headerSize x);
     })
     noView
 
@@ -54,7 +55,7 @@ ipv4View x =
 
 -- an Ethernet frame that holds IPv4: its type, octets 12 and 13, is 08 00
 abbrev pub holdsIpv4 : List ℕ → Bool
-holdsIpv4 x = leb 14 (length x) && (eqb (getD x 12 0) 8 && eqb (getD x 13 0) 0)
+holdsIpv4 x = leb 14 (length x) && (eqb (item x 12) 8 && eqb (item x 13) 0)
 
 -- the octets of a header with a protocol: Ethernet (1) holds IPv4 from octet 14, IPv4 (11) from octet 0
 unfoldable pub headerView : ℕ → List ℕ → PacketView

@@ -192,6 +192,18 @@ fn pass_header(s: &[u8], at: usize) -> Passed
     Passed::Refused(Refusal::HeaderLength, length_at)
 }
 
+// IPv6 data that are not handed out: 56 octets, and item by item where some are missing.
+fn pass_ipv6(s: &[u8], at: usize) -> Passed
+    ensures { λ r. ⌜ r ≡ asPassed (decode sampled-ipv6 (now (s .entry)) at) ⌝ }
+{
+    if at <= s.len() {
+        if 56 <= s.len() - at {
+            return Passed::Next(at + 56);
+        }
+    }
+    fields::runs::pass_run(s, at, b"\x04\x04\x10\x10\x04\x04\x04\x04")
+}
+
 // Packet data at their type word that are not handed out.
 pub fn pass_packet(s: &[u8], at: usize) -> Passed
     ensures { λ r. ⌜ r ≡ asPassed (decode packet-data-type (now (s .entry)) at) ⌝ }
@@ -201,8 +213,8 @@ pub fn pass_packet(s: &[u8], at: usize) -> Passed
     };
     match kind {
         1 => pass_header(s, next),
-        2 => fields::runs::pass_run(s, next, 32, b"\x04\x04\x04\x04\x04\x04\x04\x04"),
-        3 => fields::runs::pass_run(s, next, 56, b"\x04\x04\x10\x10\x04\x04\x04\x04"),
+        2 => fields::words::pass_words(s, next, 8),
+        3 => pass_ipv6(s, next),
         _ => Passed::Refused(Refusal::PacketDataType, at),
     }
 }

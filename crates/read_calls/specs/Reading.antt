@@ -5,18 +5,23 @@ use Rattle.extended_data.specs.declared.Extended.{Extended}
 use Rattle.extended_data.specs.declared.Extended.the-variants.{IsSwitch, IsRouter, IsGateway, IsUser, IsUrl}
 use Rattle.extended_data.specs.declared.ExtendedRead.{ExtendedRead}
 use Rattle.extended_data.specs.declared.ExtendedRead.the-variants.{Found as FoundExtended, Refused as RefusedExtended}
+use Rattle.extended_data.specs.declared.Segment.{Segment}
 use Rattle.extended_data.specs.declared.SegmentRead.{SegmentRead}
 use Rattle.extended_data.specs.declared.SegmentRead.the-variants.{Found as FoundSegment, Refused as RefusedSegment}
+use Rattle.reader.specs.declared.datagram.Head.{Head}
 use Rattle.reader.specs.declared.datagram.HeadRead.{HeadRead}
 use Rattle.reader.specs.declared.datagram.HeadRead.the-variants.{Found as FoundHead, Refused as RefusedHead}
 use Rattle.numbers.specs.Reports.{Report, report, refusalReport}
 use Rattle.numbers.specs.Addresses.{quadNumbers}
 
--- 0; the agent's address type and four words, sequence number, uptime, count of samples, offset of the first sample
+-- the agent's address type and four words, sequence number, uptime, count of samples, offset of the first sample
+abbrev pub headNumbers : Head → List ℕ
+headNumbers h =
+    h .agent .kind ∷ (quadNumbers (h .agent .octets) ++ (h .«sequence_number» ∷ h .uptime ∷ h .samples .count ∷ h .samples .at ∷ []))
+
+-- 0; the numbers of a datagram's head
 abbrev pub headReport : HeadRead → Report
-headReport (FoundHead h) =
-    report 0
-    (h .agent .kind ∷ (quadNumbers (h .agent .octets) ++ (h .«sequence_number» ∷ h .uptime ∷ h .samples .count ∷ h .samples .at ∷ [])))
+headReport (FoundHead h) = report 0 (headNumbers h)
 headReport (RefusedHead why p) = refusalReport why p
 
 -- the extended data type
@@ -40,12 +45,20 @@ extendedNumbers (IsGateway x) =
 extendedNumbers (IsUser x) = x .«src_user» .at ∷ x .«src_user» .length ∷ x .«dst_user» .at ∷ x .«dst_user» .length ∷ []
 extendedNumbers (IsUrl x) = x .direction ∷ x .url .at ∷ x .url .length ∷ []
 
--- 0; type, offset behind the entry, then its numbers
+-- type and offset behind an extended entry, then its numbers
+abbrev pub entryNumbers : Extended → ℕ → List ℕ
+entryNumbers x next = extendedType x ∷ next ∷ extendedNumbers x
+
+-- 0; the numbers of an extended entry
 abbrev pub extendedReport : ExtendedRead → Report
-extendedReport (FoundExtended x next) = report 0 (extendedType x ∷ next ∷ extendedNumbers x)
+extendedReport (FoundExtended x next) = report 0 (entryNumbers x next)
 extendedReport (RefusedExtended why p) = refusalReport why p
 
--- 0; type, offset behind the segment, count of its words, offset of the first
+-- type and offset behind a path segment, count of its words, offset of the first
+abbrev pub segmentNumbers : Segment → ℕ → List ℕ
+segmentNumbers x next = x .kind ∷ next ∷ x .numbers .count ∷ x .numbers .at ∷ []
+
+-- 0; the numbers of a path segment
 abbrev pub segmentReport : SegmentRead → Report
-segmentReport (FoundSegment x next) = report 0 (x .kind ∷ next ∷ x .numbers .count ∷ x .numbers .at ∷ [])
+segmentReport (FoundSegment x next) = report 0 (segmentNumbers x next)
 segmentReport (RefusedSegment why p) = refusalReport why p

@@ -11,21 +11,21 @@ use numbers::refuse;
 use reader::datagram::HeadRead;
 ghost use mathlib.Core.Path.{_≡_};
 ghost use mathlib.Core.List.{_∷_};
+ghost use Rattle.xdr.specs.Writes.{afterwards};
 ghost use Rattle.sflow.specs.Decode.{decode, mapped};
 ghost use Rattle.sflow.specs.Datagram.{as-path-type, extended-data-type};
-ghost use Rattle.sflow.specs.Reading.{readDatagram};
 ghost use Rattle.extended_data.specs.declared.Extended.the-variants.{IsSwitch, IsRouter, IsGateway};
 ghost use Rattle.extended_data.specs.ExtendedData.{segmentOf, asSegment, extendedOf, asExtended};
-ghost use Rattle.reader.specs.Datagrams.{datagramOf, asHead};
-ghost use Rattle.numbers.specs.Reports.{filled, told, tell};
-ghost use Rattle.read_calls.specs.Reading.{headReport, extendedType, extendedNumbers, extendedReport, segmentReport};
+ghost use Rattle.reader.specs.Datagrams.{datagramRead};
+ghost use Rattle.numbers.specs.Reports.{filled, tell};
+ghost use Rattle.read_calls.specs.Reading.{headReport, extendedNumbers, entryNumbers, extendedReport, segmentReport};
 
 // Reads a whole datagram. Answers 0 where it is well formed; the array takes nine numbers:
 //   0 agent address type, 1 for IPv4 or 2 for IPv6; 1 to 4 the address's words (of an IPv4 address the first, and three zeros);
 //   5 sequence number; 6 uptime; 7 count of samples; 8 offset of the first sample.
 // Else it answers the refusal's number, 1 to 14, and the array takes the refusal's offset.
 pub fn read(octets: &[u8], out: &mut [u64]) -> u32
-    ensures { λ r. ⌜ told r (now (out .exit)) ≡ tell (headReport (asHead (mapped datagramOf (readDatagram (now (octets .entry)))))) (now (out .entry)) ⌝ }
+    ensures { λ r. ⌜ afterwards r (now (out .exit)) ≡ tell (headReport (datagramRead (now (octets .entry)))) (now (out .entry)) ⌝ }
 {
     match reader::datagram::read(octets) {
         HeadRead::Refused(why, p) => refuse(why, p, out),
@@ -109,7 +109,7 @@ fn fill_gateway(g: Gateway, next: usize, out: &mut [u64])
 
 // Puts the numbers of an extended entry that ends at an offset to the front of an array.
 fn fill_extended(x: Extended, next: usize, out: &mut [u64])
-    ensures { λ _. ⌜ now (out .exit) ≡ filled (extendedType x ∷ next ∷ extendedNumbers x) (now (out .entry)) ⌝ }
+    ensures { λ _. ⌜ now (out .exit) ≡ filled (entryNumbers x next) (now (out .entry)) ⌝ }
 {
     match x {
         Extended::IsSwitch(v) => fill_switch(v, next, out),
@@ -149,7 +149,7 @@ fn fill_extended(x: Extended, next: usize, out: &mut [u64])
 //   of type 5, URL: 2 direction, 1 or 2; 3 offset and 4 length of the URL's octets.
 // Else it answers the refusal's number, 1, 3, 8 to 10 or 12, and the array takes the refusal's offset.
 pub fn extended(octets: &[u8], at: usize, out: &mut [u64]) -> u32
-    ensures { λ r. ⌜ told r (now (out .exit))
+    ensures { λ r. ⌜ afterwards r (now (out .exit))
         ≡ tell (extendedReport (asExtended (mapped (extendedOf at) (decode extended-data-type (now (octets .entry)) at)))) (now (out .entry)) ⌝ }
 {
     match extended_data::read_extended(octets, at) {
@@ -166,7 +166,7 @@ pub fn extended(octets: &[u8], at: usize, out: &mut [u64]) -> u32
 //   autonomous systems; 3 offset of the first.
 // Else it answers the refusal's number, 1 or 9, and the array takes the refusal's offset.
 pub fn segment(octets: &[u8], at: usize, out: &mut [u64]) -> u32
-    ensures { λ r. ⌜ told r (now (out .exit))
+    ensures { λ r. ⌜ afterwards r (now (out .exit))
         ≡ tell (segmentReport (asSegment (mapped (segmentOf at) (decode as-path-type (now (octets .entry)) at)))) (now (out .entry)) ⌝ }
 {
     match extended_data::read_segment(octets, at) {

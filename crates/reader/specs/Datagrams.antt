@@ -8,7 +8,7 @@ use Rattle.sflow.specs.declared.Refusal.the-variants.{Version, Trailing, TooLon
 use Rattle.sflow.specs.Grammar.{Form, fixed, _then_, constant, Value}
 use Rattle.sflow.specs.Decode.{Decoded, found, refused, mapped, decode}
 use Rattle.sflow.specs.Datagram.{int, address, sample-type, sample-datagram, agentAddress, samples}
-use Rattle.sflow.specs.Reading.{longest}
+use Rattle.sflow.specs.Reading.{longest, readDatagram}
 use Rattle.reader.specs.declared.sample.Sample.{Sample}
 use Rattle.reader.specs.declared.sample.SampleRead.{SampleRead}
 use Rattle.reader.specs.declared.sample.SampleRead.the-variants.{Found as FoundSample, Refused as RefusedSample}
@@ -38,6 +38,10 @@ datagramOf v =
 abbrev pub asHead : Decoded Head → HeadRead
 asHead (found v next) = FoundHead v
 asHead (refused why p) = RefusedHead why p
+
+-- what reading a whole datagram answers
+abbrev pub datagramRead : List ℕ → HeadRead
+datagramRead s = asHead (mapped datagramOf (readDatagram s))
 
 -- sequence number, uptime, number of samples
 abbrev pub head-words : List ℕ

@@ -11,9 +11,8 @@ ghost use mathlib.Core.Path.{_≡_};
 ghost use Rattle.sflow.specs.Grammar.{fixed};
 ghost use Rattle.sflow.specs.Decode.{decode, entries, mapped};
 ghost use Rattle.sflow.specs.Datagram.{sample-type};
-ghost use Rattle.sflow.specs.Reading.{readDatagram};
 ghost use Rattle.fields.specs.Parts.{asPassed};
-ghost use Rattle.reader.specs.Datagrams.{datagramOf, asHead, head-words, headWith, headAt, stepAt};
+ghost use Rattle.reader.specs.Datagrams.{asHead, datagramRead, head-words, headWith, headAt, stepAt};
 
 // What stands before the samples; samples are the offset of the first one and their number.
 pub struct Head {
@@ -88,7 +87,7 @@ fn pass_samples(s: &[u8], first: usize, count: u32) -> Passed
 
 // A whole datagram: its head, where all of it is well formed.
 pub fn read(s: &[u8]) -> HeadRead
-    ensures { λ r. ⌜ r ≡ asHead (mapped datagramOf (readDatagram (now (s .entry)))) ⌝ }
+    ensures { λ r. ⌜ r ≡ datagramRead (now (s .entry)) ⌝ }
 {
     let start = read_head(s);
     let HeadRead::Found(head) = start else {

@@ -214,7 +214,7 @@ pub fn read_sample(s: &[u8], at: usize) -> SampleRead
 fn pass_flow(s: &[u8], at: usize) -> Passed
     ensures { λ r. ⌜ r ≡ asPassed (decode flow-sample (now (s .entry)) at) ⌝ }
 {
-    let words = fields::runs::pass_run(s, at, 28, b"\x04\x04\x04\x04\x04\x04\x04");
+    let words = fields::words::pass_words(s, at, 7);
     let Passed::Next(packet_at) = words else {
         return words;
     };
@@ -232,7 +232,7 @@ fn pass_flow(s: &[u8], at: usize) -> Passed
 fn pass_counters_sample(s: &[u8], at: usize) -> Passed
     ensures { λ r. ⌜ r ≡ asPassed (decode counters-sample (now (s .entry)) at) ⌝ }
 {
-    let words = fields::runs::pass_run(s, at, 12, b"\x04\x04\x04");
+    let words = fields::words::pass_words(s, at, 3);
     let Passed::Next(counters_at) = words else {
         return words;
     };

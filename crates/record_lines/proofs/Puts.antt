@@ -5,7 +5,7 @@ use mathlib.Core.Path.{_≡_, sym, _∙_}
 use mathlib.Core.List.{List, [], _++_}
 use lib.ListN.{length, length-append, take-append-drop}
 use borrow.Author.Tests.{le-leb, lt-leb}
-use Rattle.xdr.specs.Writes.{stored, wrote}
+use Rattle.xdr.specs.Writes.{stored, afterwards}
 use Rattle.xdr.specs.declared.Written.the-variants.{WrittenTo, Full}
 use Rattle.xdr.proofs.Writing.{stored-next}
 use Rattle.record_lines.specs.Lines.{Puts, writeLine}
@@ -35,10 +35,10 @@ puts-as h p = rw h p
 -- ---- a line where there may be no room
 
 pub line-fits : (room : ℕ) (d e : List ℕ) (at r : ℕ) (xs : List ℕ) → at + room ≤ length d → Puts d at xs r e
-    → wrote (WrittenTo r) e ≡ writeLine room d at xs
+    → afterwards (WrittenTo r) e ≡ writeLine room d at xs
 unfolding writeLine
 line-fits room d e at r xs h p = rw (le-leb _ _ h, p .next-is, p .octets-are)
 
-pub line-full : (room : ℕ) (d : List ℕ) (at : ℕ) (xs : List ℕ) → length d < at + room → wrote Full d ≡ writeLine room d at xs
+pub line-full : (room : ℕ) (d : List ℕ) (at : ℕ) (xs : List ℕ) → length d < at + room → afterwards Full d ≡ writeLine room d at xs
 unfolding writeLine
 line-full room d at xs h = rw (lt-leb _ _ h)

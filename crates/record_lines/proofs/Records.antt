@@ -10,6 +10,7 @@ use lib.Dec.{ltb}
 use borrow.Author.Tests.{le-leb, lt-leb}
 use types.Run.{OneOf, miss}
 use denote.Enum.Declared.{tagOf}
+use Rattle.xdr.specs.Writes.{afterwards}
 use Rattle.reader.proofs.datagram.Step.{the-type}
 use Rattle.sflow.specs.declared.Refusal.{Refusal}
 use Rattle.sflow.specs.declared.Refusal.the-variants.{Trailing}
@@ -21,9 +22,9 @@ use Rattle.reader.specs.declared.datagram.Step.{Step}
 use Rattle.reader.specs.declared.datagram.Step.the-variants.{Found as FoundSample, End, Refused as Stopped}
 use Rattle.reader.specs.declared.datagram.HeadRead.{HeadRead}
 use Rattle.reader.specs.declared.datagram.HeadRead.the-variants.{Found, Refused}
-use Rattle.reader.specs.Datagrams.{stepAt, walk, walkOn}
+use Rattle.reader.specs.Datagrams.{stepAt, walk, walkOn, datagramRead}
 use Rattle.record_lines.specs.Lines.{Puts, sampleLine, sampleLines, refusedLine}
-use Rattle.record_lines.specs.Records.{headOf, linesOf, recordLines, roomOf, answerTo, listing, listRecord}
+use Rattle.record_lines.specs.Records.{linesOf, recordLines, roomOf, answerTo, listRecord}
 use Rattle.record_lines.specs.declared.Listed.the-variants.{Refused as RefusedRecord, NoRoom}
 use Rattle.record_lines.proofs.Puts.{then, puts-none, puts-as}
 
@@ -75,22 +76,22 @@ walked-over s (suc left) at (Stopped why p) h e o = rw (sym e)
 -- ---- a record
 
 pub lists : (d e : List ℕ) (at n r : ℕ) (s : List ℕ) (a : HeadRead)
-    → headOf s ≡ a → Puts d at (linesOf n s a) r e → at + roomOf a ≤ length d → listing (answerTo a r) e ≡ listRecord d at n s
+    → datagramRead s ≡ a → Puts d at (linesOf n s a) r e → at + roomOf a ≤ length d → afterwards (answerTo a r) e ≡ listRecord d at n s
 unfolding listRecord recordLines
 lists d e at n r s a q p h = rw (q, le-leb _ _ h, p .next-is, p .octets-are)
 
-pub no-room : (d : List ℕ) (at n : ℕ) (s : List ℕ) (a : HeadRead) → headOf s ≡ a → length d < at + roomOf a → listing NoRoom d ≡ listRecord d at n s
+pub no-room : (d : List ℕ) (at n : ℕ) (s : List ℕ) (a : HeadRead) → datagramRead s ≡ a → length d < at + roomOf a → afterwards NoRoom d ≡ listRecord d at n s
 unfolding listRecord
 no-room d at n s a q h = rw (q, lt-leb _ _ h)
 
 -- every record asks for this room
-pub no-room-at-all : (d : List ℕ) (at n : ℕ) (s : List ℕ) → length d < at + 164 → listing NoRoom d ≡ listRecord d at n s
-no-room-at-all d at n s h = go (headOf s) refl
+pub no-room-at-all : (d : List ℕ) (at n : ℕ) (s : List ℕ) → length d < at + 164 → afterwards NoRoom d ≡ listRecord d at n s
+no-room-at-all d at n s h = go (datagramRead s) refl
   where
-    go : (a : HeadRead) → headOf s ≡ a → listing NoRoom d ≡ listRecord d at n s
+    go : (a : HeadRead) → datagramRead s ≡ a → afterwards NoRoom d ≡ listRecord d at n s
     go (Found g) q = no-room d at n s (Found g) q (omega arith)
     go (Refused why p) q = no-room d at n s (Refused why p) q h
 
-pub lists-refused : (d e : List ℕ) (at n r : ℕ) (s : List ℕ) (why : Refusal) (p num : ℕ) → headOf s ≡ Refused why p → num ≡ refusalNumber why
-    → Puts d at (refusedLine n num p) r e → at + 164 ≤ length d → listing (RefusedRecord r) e ≡ listRecord d at n s
+pub lists-refused : (d e : List ℕ) (at n r : ℕ) (s : List ℕ) (why : Refusal) (p num : ℕ) → datagramRead s ≡ Refused why p → num ≡ refusalNumber why
+    → Puts d at (refusedLine n num p) r e → at + 164 ≤ length d → afterwards (RefusedRecord r) e ≡ listRecord d at n s
 lists-refused d e at n r s why p num q m x h = lists d e at n r s (Refused why p) q (rw (sym m) x) h

@@ -8,8 +8,8 @@ use lib.ListN.{length, length-append}
 use lib.Dec.{T, leb, eqb}
 use borrow.Author.Tests.{le-leb, leb-true}
 use Rattle.xdr.specs.Numbers.{Octets, octetsOf}
-use Rattle.xdr.specs.Items.{sum}
-use Rattle.xdr.specs.Writes.{stored}
+use Rattle.xdr.specs.Items.{totalWidth}
+use Rattle.xdr.specs.Writes.{stored, afterwards}
 use Rattle.xdr.proofs.Octets.{octets-length}
 use Rattle.sflow.specs.Grammar.{fixed, Value, Valid, Each, Arm, case, chosen, listed, encode}
 use Rattle.sflow.specs.Datagram.{int, flow-words, flow-sample, counters-versions, counters-sample, sample-type, sample-datagram, samples}
@@ -17,20 +17,20 @@ use Rattle.sflow.specs.Decode.{Decoded, found, refused, mapped}
 use Rattle.sflow.specs.Reading.{readDatagram}
 use Rattle.sflow.proofs.Items.{each-length}
 use Rattle.sflow.proofs.Theorems.{accepted-exactly, accepted-to-end}
-use Rattle.reader.specs.Datagrams.{datagramOf, asHead}
-use Rattle.record_lines.specs.Records.{headOf, recordLines, roomOf, answerTo, listing, listRecord}
+use Rattle.reader.specs.Datagrams.{datagramOf, asHead, datagramRead}
+use Rattle.record_lines.specs.Records.{recordLines, roomOf, answerTo, listRecord}
 
 -- every arm's items take so many octets
 abbrev allLong : ℕ → List (Arm (List ℕ)) → Bool
 allLong n [] = true
-allLong n (case k ws ∷ arms) = leb n (sum ws) && allLong n arms
+allLong n (case k ws ∷ arms) = leb n (totalWidth ws) && allLong n arms
 
-chosen-long : (n : ℕ) (arms : List (Arm (List ℕ))) (v : ℕ) → T (listed arms v) → T (allLong n arms) → n ≤ sum (chosen [] arms v)
+chosen-long : (n : ℕ) (arms : List (Arm (List ℕ))) (v : ℕ) → T (listed arms v) → T (allLong n arms) → n ≤ totalWidth (chosen [] arms v)
 chosen-long n [] v t a = absurd t
-chosen-long n (case k ws ∷ arms) v t a = go (eqb v k) (leb n (sum ws)) refl t a (chosen-long n arms v)
+chosen-long n (case k ws ∷ arms) v t a = go (eqb v k) (leb n (totalWidth ws)) refl t a (chosen-long n arms v)
   where
-    go : (b c : Bool) → leb n (sum ws) ≡ c → T (b || listed arms v) → T (c && allLong n arms)
-        → (T (listed arms v) → T (allLong n arms) → n ≤ sum (chosen [] arms v)) → n ≤ sum (cond b ws (chosen [] arms v))
+    go : (b c : Bool) → leb n (totalWidth ws) ≡ c → T (b || listed arms v) → T (c && allLong n arms)
+        → (T (listed arms v) → T (allLong n arms) → n ≤ totalWidth (chosen [] arms v)) → n ≤ totalWidth (cond b ws (chosen [] arms v))
     go true true e t a rest = leb-true _ _ e
     go b false e t a rest = absurd a
     go false true e t a rest = rest t a
@@ -74,8 +74,7 @@ samples-few s o v e =
     omega arith
 
 -- no record asks for more room than this
-pub room-enough : (s : List ℕ) → Octets s → roomOf (headOf s) ≤ 222796
-unfolding headOf
+pub room-enough : (s : List ℕ) → Octets s → roomOf (datagramRead s) ≤ 222796
 room-enough s o = go (readDatagram s) refl
   where
     go : (d : Decoded (Value sample-datagram)) → readDatagram s ≡ d → roomOf (asHead (mapped datagramOf d)) ≤ 222796
@@ -86,9 +85,9 @@ room-enough s o = go (readDatagram s) refl
 
 -- an output with so much room takes every record's lines
 pub takes-every : (d : List ℕ) (at n : ℕ) (s : List ℕ) → Octets s → at + 222796 ≤ length d
-    → listRecord d at n s ≡ listing (answerTo (headOf s) (at + length (recordLines n s))) (stored d at (recordLines n s))
+    → listRecord d at n s ≡ afterwards (answerTo (datagramRead s) (at + length (recordLines n s))) (stored d at (recordLines n s))
 unfolding listRecord
 takes-every d at n s o h =
     let r = room-enough s o in
-    let room : at + roomOf (headOf s) ≤ length d = omega arith in
+    let room : at + roomOf (datagramRead s) ≤ length d = omega arith in
     rw (le-leb _ _ room)

@@ -5,7 +5,8 @@ use mathlib.Core.Bool.{Bool, true, false, cond}
 use mathlib.Core.List.{List, [], _∷_, _++_}
 use lib.ListN.{length}
 use lib.Dec.{leb, eqb}
-use Rattle.xdr.specs.Writes.{stored, Wrote, wrote}
+use Rattle.xdr.specs.declared.Written.{Written}
+use Rattle.xdr.specs.Writes.{stored, Afterwards, storeIf}
 use Rattle.xdr.specs.declared.Written.the-variants.{WrittenTo, Full}
 use Rattle.fields.specs.declared.address.Address.{Address}
 use Rattle.reader.specs.declared.sample.Sample.{Sample}
@@ -20,11 +21,8 @@ pub record Puts (d : List ℕ) (at : ℕ) (xs : List ℕ) (next : ℕ) (e : List
   pub octets-are : e ≡ stored d at xs
 
 -- a line written at an offset where room octets are left, which is enough for it; else nothing is changed
-unfoldable pub writeLine : ℕ → List ℕ → ℕ → List ℕ → Wrote
-writeLine room d at xs =
-    cond (leb (at + room) (length d))
-    (wrote (WrittenTo (at + length xs)) (stored d at xs))
-    (wrote Full d)
+unfoldable pub writeLine : ℕ → List ℕ → ℕ → List ℕ → Afterwards Written
+writeLine room d at xs = storeIf (leb (at + room) (length d)) (WrittenTo (at + length xs)) Full d at xs
 
 -- ---- the words of the lines
 

@@ -1,23 +1,16 @@
 -- The lines of one record (document 01, "Listing a capture").
 use Prim.Native.Nat.{ℕ, _+_, _*_}
-use mathlib.Core.Bool.{cond}
 use mathlib.Core.List.{List, _++_}
 use lib.ListN.{length}
 use lib.Dec.{leb}
-use Rattle.xdr.specs.Writes.{stored}
-use Rattle.sflow.specs.Decode.{mapped}
-use Rattle.sflow.specs.Reading.{readDatagram}
+use Rattle.xdr.specs.Writes.{Afterwards, storeIf}
 use Rattle.sflow.specs.Refusals.{refusalNumber}
 use Rattle.reader.specs.declared.datagram.HeadRead.{HeadRead}
 use Rattle.reader.specs.declared.datagram.HeadRead.the-variants.{Found, Refused}
-use Rattle.reader.specs.Datagrams.{datagramOf, asHead, walk}
+use Rattle.reader.specs.Datagrams.{datagramRead, walk}
 use Rattle.record_lines.specs.Lines.{sampleLines, agentLine, refusedLine}
 use Rattle.record_lines.specs.declared.Listed.{Listed}
 use Rattle.record_lines.specs.declared.Listed.the-variants.{Accepted, Refused as RefusedRecord, NoRoom}
-
--- a record's datagram as the reader reads it: its head, or the refusal
-unfoldable pub headOf : List ℕ → HeadRead
-headOf s = asHead (mapped datagramOf (readDatagram s))
 
 -- the lines of a record with its number: the first line and one for each sample, or the line of the refusal
 abbrev pub linesOf : ℕ → List ℕ → HeadRead → List ℕ
@@ -25,7 +18,7 @@ linesOf number s (Found h) = agentLine number h (length s) ++ sampleLines (walk 
 linesOf number s (Refused why p) = refusedLine number (refusalNumber why) p
 
 unfoldable pub recordLines : ℕ → List ℕ → List ℕ
-recordLines number s = linesOf number s (headOf s)
+recordLines number s = linesOf number s (datagramRead s)
 
 -- room that is enough for the lines, and that is asked for
 abbrev pub roomOf : HeadRead → ℕ
@@ -37,13 +30,7 @@ abbrev pub answerTo : HeadRead → ℕ → Listed
 answerTo (Found h) next = Accepted next (h .samples .count)
 answerTo (Refused why p) next = RefusedRecord next
 
--- an answer, and the output afterwards
-pub data Listing : Type 0 where
-  listing : Listed → List ℕ → Listing
-
 -- a record's lines put into an output at an offset, or the output as it was
-unfoldable pub listRecord : List ℕ → ℕ → ℕ → List ℕ → Listing
+unfoldable pub listRecord : List ℕ → ℕ → ℕ → List ℕ → Afterwards Listed
 listRecord d at number s =
-    cond (leb (at + roomOf (headOf s)) (length d))
-    (listing (answerTo (headOf s) (at + length (recordLines number s))) (stored d at (recordLines number s)))
-    (listing NoRoom d)
+    storeIf (leb (at + roomOf (datagramRead s)) (length d)) (answerTo (datagramRead s) (at + length (recordLines number s))) NoRoom d at (recordLines number s)

@@ -11,7 +11,7 @@ ghost use mathlib.Core.Path.{_≡_};
 ghost use mathlib.Core.List.{_++_};
 ghost use Prim.Native.Nat.{ℕ, _+_, _*_, _≤_, _<_};
 ghost use lib.ListN.{length};
-ghost use Rattle.xdr.specs.Writes.{stored, wrote};
+ghost use Rattle.xdr.specs.Writes.{stored, afterwards};
 ghost use Rattle.record_lines.specs.Digits.{digit, lastDigits, shown, decimal, hexadecimal};
 ghost use Rattle.record_lines.specs.Lines.{
   Puts,
@@ -32,7 +32,7 @@ ghost use Rattle.record_lines.specs.Lines.{
   sampleLines,
 };
 ghost use Rattle.reader.specs.Datagrams.{walk};
-ghost use Rattle.record_lines.specs.Records.{listing, listRecord};
+ghost use Rattle.record_lines.specs.Records.{listRecord};
 
 // Puts octets at an offset and answers the offset behind them.
 fn put(d: &mut [u8], at: usize, s: &[u8]) -> usize
@@ -334,7 +334,7 @@ pub fn closing_lines(
     refused: u64,
     samples: u64,
 ) -> Written
-    ensures { λ r. ⌜ wrote r (now (d .exit)) ≡ writeLine 123 (now (d .entry)) at (closingLines bad offset records refused samples) ⌝ }
+    ensures { λ r. ⌜ afterwards r (now (d .exit)) ≡ writeLine 123 (now (d .entry)) at (closingLines bad offset records refused samples) ⌝ }
 {
     if d.len() < at {
         return Written::Full;
@@ -377,7 +377,7 @@ pub enum Listed {
 
 // Lists a record's datagram at an offset of the output, with the record's number.
 pub fn list_record(d: &mut [u8], at: usize, index: u64, s: &[u8]) -> Listed
-    ensures { λ r. ⌜ listing r (now (d .exit)) ≡ listRecord (now (d .entry)) at index (now (s .entry)) ⌝ }
+    ensures { λ r. ⌜ afterwards r (now (d .exit)) ≡ listRecord (now (d .entry)) at index (now (s .entry)) ⌝ }
 {
     if d.len() < at {
         return Listed::NoRoom;

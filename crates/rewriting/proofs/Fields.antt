@@ -1,24 +1,25 @@
 -- What the reader gives of addresses, strings, lists of words and runs of words is the whole value again. Assumes nothing.
-use Prim.Native.Nat.{ℕ, zero, suc, _+_, _/_, _^_}
+use Prim.Native.Nat.{ℕ, zero, suc, _+_, _/_, _^_, _<_}
+use native.Mathlib.Omega.{arith}
 use native.Mathlib.Nat.{div-add-mod'}
 use mathlib.Core.Path.{_≡_, refl, ap}
 use mathlib.Core.Bool.{Bool, true, false, cond, _||_}
 use mathlib.Core.List.{List, [], _∷_, flatMap}
 use lib.ListN.{length, replicate}
 use lib.Dec.{T, eqb}
+use borrow.Author.Tests.{eqb-true}
 use Rattle.xdr.specs.Numbers.{numberAt}
 use Rattle.xdr.specs.Items.{numbersAt}
 use Rattle.xdr.specs.Writes.{paddedOctets}
-use Rattle.xdr.proofs.Tests.{is-true}
 use Rattle.sflow.specs.Slices.{Slice}
-use Rattle.sflow.specs.Grammar.{Limit, opaque, Value, Fits, Each, Valid, encode}
+use Rattle.sflow.specs.Grammar.{Limit, opaque, Arm, case, listed, Value, Fits, Each, Valid, encode}
 use Rattle.sflow.specs.Datagram.{ip-v4, ip-v6, word, address}
 use Rattle.sflow.proofs.Slices.{first, second}
 use Rattle.sflow.proofs.Items.{each-length, items-read, word-rest, string-read}
 use Rattle.fields.specs.Parts.{item, entriesAt}
-use Rattle.fields.specs.Addresses.{quadOf, firstOf, addressOf}
+use Rattle.fields.specs.Addresses.{quadOf, firstWord, addressOf}
 use Rattle.fields.specs.Strings.{textOf, textIn}
-use Rattle.form_writer.specs.Values.{wordsValue, quadValue, addressAllowed, addressValue}
+use Rattle.form_writer.specs.Values.{wordsValue, quadValue, addressValue}
 use Rattle.rewriting.specs.Forms.{wordsIn}
 
 -- ---- runs of numbers
@@ -47,14 +48,10 @@ pub address-again : (a : Value address) → Valid address a → addressValue (ad
 address-again (kind, vs) h = go (eqb kind 1) (eqb kind 2) vs (h .1) (h .2)
   where
     go : (b c : Bool) (vs : List ℕ) → T (b || (c || false)) → Fits (cond b (ip-v4 ∷ []) (cond c (ip-v6 ∷ []) [])) vs
-        → _≡_ {A = Value address} (kind, (cond b (cond b (firstOf (item vs 0)) (quadOf (item vs 0)) .a) (quadValue (cond b (firstOf (item vs 0)) (quadOf (item vs 0)))) ∷ [])) (kind, vs)
+        → _≡_ {A = Value address} (kind, (cond b (cond b (firstWord (item vs 0)) (quadOf (item vs 0)) .a) (quadValue (cond b (firstWord (item vs 0)) (quadOf (item vs 0)))) ∷ [])) (kind, vs)
     go true c vs t f = ap (λ (l : List ℕ). (kind, l)) (items-are (4 ∷ []) vs f)
     go false true vs t f = rw (quad-again (item vs 0)) (ap (λ (l : List ℕ). (kind, l)) (items-are (16 ∷ []) vs f))
     go false false vs t f = absurd t
-
--- and it is one that may be written
-pub address-allowed : (a : Value address) → Valid address a → addressAllowed (addressOf a) ≡ true
-address-allowed a h = is-true (addressAllowed (addressOf a)) (h .1)
 
 -- ---- strings and lists of words, by their places
 
@@ -75,8 +72,18 @@ words-again s (v ∷ vs) at next h p =
     let rest : Slice s (at + 4) next more = rw long at (second (encode word v) more p) in
     rw (here, words-again s vs (at + 4) next (h .1) rest)
 
--- there are as many as the list says
-pub words-many : (s : List ℕ) (n at : ℕ) → length (numbersAt s at (replicate n 4)) ≡ n
-unfolding numbersAt
-words-many s zero at = refl
-words-many s (suc n) at = ap suc (words-many s n (at + 4))
+-- ---- unions
+
+-- every arm's number lies below a number
+abbrev Below : {A : Type 0} → List (Arm A) → ℕ → Type 0
+Below [] v = Unit {0}
+Below (case n x ∷ arms) v = (n < v) × Below arms v
+
+-- a number past all arms is none of theirs
+pub past-all : {A : Type 0} (arms : List (Arm A)) (v : ℕ) → Below arms v → T (listed arms v) → ⊥
+past-all [] v b t = t
+past-all (case n x ∷ arms) v b t = go (eqb v n) refl t (past-all arms v (b .1))
+  where
+    go : (c : Bool) → eqb v n ≡ c → T (c || listed arms v) → (T (listed arms v) → ⊥) → ⊥
+    go true e u rest = let s : v ≡ n = eqb-true v n e in let l = b .0 in omega arith
+    go false e u rest = rest u

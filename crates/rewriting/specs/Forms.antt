@@ -1,12 +1,13 @@
--- The octets that the writers write for what the reader gives of each form, where there is room (document 01, "Writer").
-use Prim.Native.Nat.{ℕ, zero, suc, _-_}
-use mathlib.Core.Bool.{Bool, cond}
+-- The values that writers are given of what the reader gives of each form (document 01, "Writer"); entries are written first, and given as octets.
+use Prim.Native.Nat.{ℕ, zero, suc}
+use mathlib.Core.Bool.{cond}
 use mathlib.Core.List.{List, [], _∷_, _++_}
-use lib.ListN.{length, take, replicate}
+use mathlib.Core.Option.{Option, some}
+use lib.ListN.{replicate}
 use Rattle.xdr.specs.Items.{numbersAt}
-use Rattle.sflow.specs.Grammar.{encode}
+use Rattle.sflow.specs.Grammar.{Form, Value, allowsGiven, encodeGiven}
 use Rattle.sflow.specs.Decode.{Decoded, found, refused, mapped, decode}
-use Rattle.sflow.specs.Datagram.{packet-data-type, as-path-type, extended-data-type, counters-type}
+use Rattle.sflow.specs.Datagram.{packet-data-type, as-path-type, extended-data-type}
 use Rattle.fields.specs.declared.words.Entries.{Entries}
 use Rattle.fields.specs.Strings.{textIn}
 use Rattle.packet_data.specs.declared.PacketData.{PacketData}
@@ -15,26 +16,17 @@ use Rattle.extended_data.specs.declared.Segment.{Segment}
 use Rattle.extended_data.specs.declared.Extended.{Extended}
 use Rattle.extended_data.specs.declared.Extended.the-variants.{IsSwitch, IsRouter, IsGateway, IsUser, IsUrl}
 use Rattle.extended_data.specs.ExtendedData.{segmentOf, extendedOf}
-use Rattle.counter_data.specs.declared.CounterBody.{CounterBody}
-use Rattle.counter_data.specs.declared.CounterAnswer.{CounterAnswer}
-use Rattle.counter_data.specs.declared.CounterAnswer.the-variants.{Found, Refused}
-use Rattle.counter_data.specs.CounterBodies.{counterValuesOf}
-use Rattle.form_writer.specs.Values.{headerAllowed, headerValue, ipv4Value, ipv6Value, addressAllowed, switchValue, routerValue, segmentAllowed, segmentValue, pathAllowed, gatewayOctets, userAllowed, userValue, urlAllowed, urlValue}
+use Rattle.form_writer.specs.Values.{headerValue, ipv4Value, ipv6Value, switchValue, routerValue, segmentValue, gatewayGiven, userValue, urlValue}
 
--- ---- what stands at the places that the reader gives
+-- ---- lists
 
--- the numbers of a list of words
+-- the numbers of a list of words at the place that the reader gives
 abbrev pub wordsIn : List ℕ → Entries → List ℕ
 wordsIn s e = numbersAt s (e .at) (replicate (e .count) 4)
 
--- the counters of a body, as many as are found at its version word
-abbrev pub firstOnes : CounterAnswer → List ℕ → List ℕ
-firstOnes (Found c next) ns = take (c .count) ns
-firstOnes (Refused why p) ns = []
-
-abbrev pub countersIn : List ℕ → CounterBody → List ℕ
-countersIn s b =
-    firstOnes (counterValuesOf (decode counters-type s (b .at - 4)) .answer) (counterValuesOf (decode counters-type s (b .at - 4)) .numbers)
+-- the octets that a writer writes of a value, where there is room; none of one that it refuses
+abbrev pub octetsWritten : (g : Form) → Option (Value g) → List ℕ
+octetsWritten g x = cond (allowsGiven g x) (encodeGiven g x) []
 
 -- what is read at an offset, written, and then what stands behind it
 abbrev pub writeThen : {A : Type 0} → (A → List ℕ) → Decoded A → (ℕ → List ℕ) → List ℕ
@@ -46,39 +38,31 @@ unfoldable pub eachAgain : {A : Type 0} → (ℕ → Decoded A) → (A → List 
 eachAgain read write zero at = []
 eachAgain read write (suc n) at = writeThen write (read at) (eachAgain read write n)
 
--- ---- what is written
+-- ---- packet data
 
--- the octets of a value that a writer allows; nothing of one that it refuses
-abbrev pub written : Bool → List ℕ → List ℕ
-written allowed xs = cond allowed xs []
+abbrev pub packetGiven : List ℕ → PacketData → Option (Value packet-data-type)
+packetGiven s (Header x) = some (headerValue (x .protocol) (x .«frame_length») (textIn s (x .header)))
+packetGiven s (Ipv4 x) = some (ipv4Value x)
+packetGiven s (Ipv6 x) = some (ipv6Value x)
 
-abbrev pub packetAgain : List ℕ → PacketData → List ℕ
-packetAgain s (Header x) =
-    written (headerAllowed (x .protocol) (length (textIn s (x .header))))
-    (encode packet-data-type (headerValue (x .protocol) (x .«frame_length») (textIn s (x .header))))
-packetAgain s (Ipv4 x) = encode packet-data-type (ipv4Value x)
-packetAgain s (Ipv6 x) = encode packet-data-type (ipv6Value x)
+-- ---- extended data
 
-abbrev pub segmentAgain : List ℕ → Segment → List ℕ
-segmentAgain s x =
-    written (segmentAllowed (x .kind) (wordsIn s (x .numbers))) (encode as-path-type (segmentValue (x .kind) (wordsIn s (x .numbers))))
+abbrev pub segmentGiven : List ℕ → Segment → Option (Value as-path-type)
+segmentGiven s x = some (segmentValue (x .kind) (wordsIn s (x .numbers)))
 
 -- the segments of a path
 abbrev pub pathAgain : List ℕ → Entries → List ℕ
-pathAgain s e = eachAgain (λ at. mapped (segmentOf at) (decode as-path-type s at)) (segmentAgain s) (e .count) (e .at)
+pathAgain s e = eachAgain (λ at. mapped (segmentOf at) (decode as-path-type s at)) (λ x. octetsWritten as-path-type (segmentGiven s x)) (e .count) (e .at)
 
-abbrev pub extendedAgain : List ℕ → Extended → List ℕ
-extendedAgain s (IsSwitch x) = encode extended-data-type (switchValue x)
-extendedAgain s (IsRouter x) = written (addressAllowed (x .nexthop)) (encode extended-data-type (routerValue x))
-extendedAgain s (IsGateway x) =
-    written (pathAllowed (x .«dst_as_path» .count) (pathAgain s (x .«dst_as_path»)) (wordsIn s (x .communities)))
-    (gatewayOctets (x .«router_as» ∷ x .«src_as» ∷ x .«src_peer_as» ∷ []) (x .«dst_as_path» .count) (pathAgain s (x .«dst_as_path»)) (wordsIn s (x .communities)) (x .localpref))
-extendedAgain s (IsUser x) =
-    written (userAllowed (textIn s (x .«src_user»)) (textIn s (x .«dst_user»)))
-    (encode extended-data-type (userValue (textIn s (x .«src_user»)) (textIn s (x .«dst_user»))))
-extendedAgain s (IsUrl x) =
-    written (urlAllowed (x .direction) (textIn s (x .url))) (encode extended-data-type (urlValue (x .direction) (textIn s (x .url))))
+abbrev pub extendedGiven : List ℕ → Extended → Option (Value extended-data-type)
+extendedGiven s (IsSwitch x) = some (switchValue x)
+extendedGiven s (IsRouter x) = some (routerValue x)
+extendedGiven s (IsGateway x) =
+    gatewayGiven (x .«router_as») (x .«src_as») (x .«src_peer_as») (x .«dst_as_path» .count) (pathAgain s (x .«dst_as_path»)) (wordsIn s (x .communities)) (x .localpref)
+extendedGiven s (IsUser x) = some (userValue (textIn s (x .«src_user»)) (textIn s (x .«dst_user»)))
+extendedGiven s (IsUrl x) = some (urlValue (x .direction) (textIn s (x .url)))
 
 -- the extended entries of a flow sample
 abbrev pub entriesAgain : List ℕ → Entries → List ℕ
-entriesAgain s e = eachAgain (λ at. mapped (extendedOf at) (decode extended-data-type s at)) (extendedAgain s) (e .count) (e .at)
+entriesAgain s e =
+    eachAgain (λ at. mapped (extendedOf at) (decode extended-data-type s at)) (λ x. octetsWritten extended-data-type (extendedGiven s x)) (e .count) (e .at)

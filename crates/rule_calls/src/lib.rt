@@ -7,14 +7,15 @@ use rules::CheckAnswer;
 ghost use mathlib.Core.Path.{_≡_};
 ghost use mathlib.Core.List.{_++_};
 ghost use lib.ListN.{length};
+ghost use Rattle.xdr.specs.Writes.{afterwards};
 ghost use Rattle.rules.specs.Checks.{check};
 ghost use Rattle.engine.specs.Results.{ruleNamed, engineOf};
-ghost use Rattle.numbers.specs.Reports.{filledBehind, told, tell};
+ghost use Rattle.numbers.specs.Reports.{filledBehind, tell};
 ghost use Rattle.rule_calls.specs.RuleSets.{checkReport, engineReport};
 
 // Checks a rule set. Answers 0 where it is accepted, else the refusal's number, 30 to 39; the array takes the number of the rule named, or 0.
 pub fn check(rules: &[u8], out: &mut [u64]) -> u32
-    ensures { λ r. ⌜ told r (now (out .exit)) ≡ tell (checkReport (check (now (rules .entry)))) (now (out .entry)) ⌝ }
+    ensures { λ r. ⌜ afterwards r (now (out .exit)) ≡ tell (checkReport (check (now (rules .entry)))) (now (out .entry)) ⌝ }
 {
     match check_rules::check(rules) {
         CheckAnswer::Accepted => {
@@ -33,10 +34,7 @@ fn rule_named(answer: EngineAnswer) -> u64
     ensures { λ r. ⌜ r ≡ ruleNamed answer ⌝ }
 {
     match answer {
-        EngineAnswer::Ignore => 0,
-        EngineAnswer::NoMatch => 0,
-        EngineAnswer::Count => 0,
-        EngineAnswer::CountPkt => 0,
+        EngineAnswer::Ended(_) => 0,
         EngineAnswer::NotOneFlowSample => 0,
         EngineAnswer::Refused(_, i) => i as u64,
     }
@@ -72,7 +70,7 @@ fn fill_key(key: FlowKey, out: &mut [u64])
 //   0 the rule that a refusal names, or 0; 1 how many rules were come to; 2 to 24 the key's masks, at each attribute's number from 0 to 22;
 //   25 to 47 its values.
 pub fn run(rules: &[u8], sample: &[u8], out: &mut [u64]) -> u32
-    ensures { λ r. ⌜ told r (now (out .exit)) ≡ tell (engineReport (engineOf (now (rules .entry)) (now (sample .entry)))) (now (out .entry)) ⌝ }
+    ensures { λ r. ⌜ afterwards r (now (out .exit)) ≡ tell (engineReport (engineOf (now (rules .entry)) (now (sample .entry)))) (now (out .entry)) ⌝ }
 {
     let result = engine::run(rules, sample);
     let answer = result.answer;

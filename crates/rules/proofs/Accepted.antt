@@ -16,8 +16,8 @@ use Rattle.rules.specs.declared.CheckRefusal.{CheckRefusal}
 use Rattle.rules.specs.declared.CheckAnswer.{CheckAnswer}
 use Rattle.rules.specs.declared.CheckAnswer.the-variants.{Accepted, Refused}
 use Rattle.rules.specs.Opcodes.{actions, actionOf}
-use Rattle.rules.specs.Records.{count, recordOf, ruleOf, declaredOf}
-use Rattle.rules.specs.Checks.{formOf, known, badOpcode, aloneOf, returnsNowhere, ruleCheck, named, orAnswer, firstOf, badLength, check}
+use Rattle.rules.specs.Records.{ruleCount, recordOf, ruleOf, declaredOf}
+use Rattle.rules.specs.Checks.{formOf, known, badOpcode, aloneOf, returnsNowhere, ruleCheck, named, orAnswer, firstBroken, badLength, check}
 use Rattle.rules.proofs.Tests.{true-false, or-false, fine-either, fine-both}
 use Rattle.rules.proofs.Invariant.{Sound, sound}
 
@@ -31,8 +31,8 @@ both-accepted : (v w : CheckAnswer) → orAnswer v w ≡ Accepted → (v ≡ Acc
 both-accepted Accepted w e = (refl, e)
 both-accepted (Refused why i) w e = let z : _≡_ {A = ℕ} 0 1 = cc in absurd (omega arith)
 
-pub all-fine : (f : ℕ → RuleCheck) (n : ℕ) → firstOf f n ≡ Accepted → (i : ℕ) → 1 ≤ i → i ≤ n → f i ≡ Fine
-unfolding firstOf
+pub all-fine : (f : ℕ → RuleCheck) (n : ℕ) → firstBroken f n ≡ Accepted → (i : ℕ) → 1 ≤ i → i ≤ n → f i ≡ Fine
+unfolding firstBroken
 all-fine f zero e i l h = absurd (omega arith)
 all-fine f (suc k) e i l h = go (leb i k) refl (λ m. all-fine f k (both-accepted _ _ e .0) i l m)
   where
@@ -40,7 +40,7 @@ all-fine f (suc k) e i l h = go (leb i k) refl (λ m. all-fine f k (both-accepte
     go true t rest = rest (leb-true _ _ t)
     go false t rest =
         let m : i ≡ suc k = omega (arith, leb-false i k t) in
-        rw m (named-fine (f (suc k)) (suc k) (both-accepted (firstOf f k) (named (f (suc k)) (suc k)) e .1))
+        rw m (named-fine (f (suc k)) (suc k) (both-accepted (firstBroken f k) (named (f (suc k)) (suc k)) e .1))
 
 -- ---- an opcode of 1 to 17 has an action
 
@@ -74,10 +74,10 @@ has-action (suc k) z h e = true-false (sym (at-all (drop 1 actions) refl k (omeg
 -- ---- an accepted rule set
 
 pub record AcceptedSet (s : List ℕ) : Type 0 where
-  pub whole : length s ≡ 16 * count s
-  pub some-rule : 1 ≤ count s
-  pub few : count s ≤ 255
-  pub rules : (i : ℕ) → 1 ≤ i → i ≤ count s → ruleCheck s i ≡ Fine
+  pub whole : length s ≡ 16 * ruleCount s
+  pub some-rule : 1 ≤ ruleCount s
+  pub few : ruleCount s ≤ 255
+  pub rules : (i : ℕ) → 1 ≤ i → i ≤ ruleCount s → ruleCheck s i ≡ Fine
 
 accepts : (b : Bool) (why : CheckRefusal) (i : ℕ) (v : CheckAnswer) → cond b (Refused why i) v ≡ Accepted → (b ≡ false) × (v ≡ Accepted)
 accepts true why i v f = let z : _≡_ {A = ℕ} 0 1 = cc in absurd (omega arith)
@@ -86,21 +86,21 @@ accepts false why i v f = (refl, f)
 pub accepted-set : (s : List ℕ) → check s ≡ Accepted → AcceptedSet s
 unfolding check
 accepted-set s e =
-    let a = accepts (badLength (length s)) _ 0 (firstOf (ruleCheck s) (count s)) e in
+    let a = accepts (badLength (length s)) _ 0 (firstBroken (ruleCheck s) (ruleCount s)) e in
     let o = or-false (eqb (length s) 0 || not (eqb (length s % 16) 0)) (ltb 4080 (length s)) (a .0) in
     let p = or-false (eqb (length s) 0) (not (eqb (length s % 16) 0)) (o .0) in
     let z : (length s ≡ 0 → ⊥) = eqb-false (length s) 0 (p .0) in
     let m : length s % 16 ≡ 0 = eqb-true (length s % 16) 0 (not-false _ (p .1)) in
     let l : length s ≤ 4080 = ltb-false 4080 (length s) (o .1) in
-    record { whole = omega arith; some-rule = omega arith; few = omega arith; rules = all-fine (ruleCheck s) (count s) (a .1) }
+    record { whole = omega arith; some-rule = omega arith; few = omega arith; rules = all-fine (ruleCheck s) (ruleCount s) (a .1) }
 
 -- every rule is sound, and every opcode has an action
-pub rule-sound : (s : List ℕ) (i : ℕ) → ruleCheck s i ≡ Fine → Sound (count s) (ruleOf s) (declaredOf s) i × (actionOf (ruleOf s i .opcode) ≡ Unknown → ⊥)
+pub rule-sound : (s : List ℕ) (i : ℕ) → ruleCheck s i ≡ Fine → Sound (ruleCount s) (ruleOf s) (declaredOf s) i × (actionOf (ruleOf s i .opcode) ≡ Unknown → ⊥)
 unfolding ruleCheck formOf
 rule-sound s i e =
     let u = fine-both (formOf (recordOf s i .mark) (ruleOf s i .attribute) (ruleOf s i .opcode)) _ e in
-    let v = fine-both (aloneOf (count s) i (ruleOf s i) (declaredOf s i)) _ (u .1) in
-    let w = fine-either (returnsNowhere (count s) (ruleOf s) (declaredOf s) (ruleOf s i) (declaredOf s i)) _ _ (v .1) in
+    let v = fine-both (aloneOf (ruleCount s) i (ruleOf s i) (declaredOf s i)) _ (u .1) in
+    let w = fine-either (returnsNowhere (ruleCount s) (ruleOf s) (declaredOf s) (ruleOf s i) (declaredOf s i)) _ _ (v .1) in
     let c = fine-either (not (eqb (recordOf s i .mark) 21109)) _ _ (u .0) in
     let d = fine-either (not (known (ruleOf s i .attribute))) _ _ (c .1) in
     let f = fine-either (badOpcode (ruleOf s i .opcode)) _ _ (d .1) in
@@ -108,4 +108,4 @@ rule-sound s i e =
     let o = or-false (eqb op 0 || ltb 17 op || eqb op 8) (eqb op 9) (f .0) in
     let p = or-false (eqb op 0 || ltb 17 op) (eqb op 8) (o .0) in
     let q = or-false (eqb op 0) (ltb 17 op) (p .0) in
-    (sound (count s) (ruleOf s) (declaredOf s) i (v .0) (w .0) (w .1), has-action op (q .0) (q .1))
+    (sound (ruleCount s) (ruleOf s) (declaredOf s) i (v .0) (w .0) (w .1), has-action op (q .0) (q .1))

@@ -9,18 +9,19 @@ use borrow.Author.Tests.{leb-true, leb-false}
 use Rattle.rules.specs.declared.Rule.{Rule}
 use Rattle.rules.specs.declared.Item.{Item}
 use Rattle.rules.specs.declared.Action.the-variants.{Unknown}
+use Rattle.rules.specs.declared.MachineAnswer.{MachineAnswer}
 use Rattle.rules.specs.declared.CheckAnswer.the-variants.{Accepted}
 use Rattle.rules.specs.Opcodes.{actionOf}
-use Rattle.rules.specs.Records.{count, ruleOf, declaredOf}
-use Rattle.rules.specs.Machine.{State, Outcome, running, ended, stuck, advance, after}
+use Rattle.rules.specs.Records.{ruleCount, ruleOf, declaredOf}
+use Rattle.rules.specs.Machine.{MachineState, Outcome, running, ended, stuck, advance, after}
 use Rattle.rules.specs.Checks.{check}
-use Rattle.rules.specs.Demand.{WithinLimits, Demand3, openSubroutine, AsDeclared}
+use Rattle.rules.specs.Demand.{bound, WithinLimits, MachineWithin, openSubroutine, AsDeclared}
 use Rattle.rules.proofs.Invariant.{Sound, Frames, main, sub, Inv, Reached, reached, ends}
 use Rattle.rules.proofs.Accepted.{accepted-set, rule-sound}
 
 module _ (s : List ℕ) (e : check s ≡ Accepted) (at : ℕ → ℕ) where
   abbrev n : ℕ
-  n = count s
+  n = ruleCount s
 
   pub all-sound : (i : ℕ) → 1 ≤ i → i ≤ n → Sound n (ruleOf s) (declaredOf s) i
   all-sound i l h = rule-sound s i (accepted-set s e .rules i l h) .0
@@ -31,14 +32,14 @@ module _ (s : List ℕ) (e : check s ≡ Accepted) (at : ℕ → ℕ) where
   pub reach : (k : ℕ) → Reached n (ruleOf s) (declaredOf s) k (after n (ruleOf s) at k)
   reach k = reached n (ruleOf s) (declaredOf s) all-sound all-act at (accepted-set s e .some-rule) k
 
-  within : (k : ℕ) (o : Outcome) → Reached n (ruleOf s) (declaredOf s) k o → WithinLimits n o
+  within : (k : ℕ) (o : Outcome) → Reached n (ruleOf s) (declaredOf s) k o → WithinLimits (bound n) o
   within k (running t) r =
       let f = all-sound (t .number) (r .0 .low) (r .0 .high) in
       (omega (arith, f .deep, r .0 .depth), omega (arith, f .full, r .0 .held), omega (arith, r .1, r .2))
   within k (ended a items c) r = (r .0, r .2)
   within k stuck r = r
 
-  pub demand-3 : Demand3 n (ruleOf s) at
+  pub demand-3 : MachineWithin n (ruleOf s) at (bound n)
   demand-3 =
       record {
         always = λ k. within k (after n (ruleOf s) at k) (reach k);
@@ -50,7 +51,7 @@ module _ (s : List ℕ) (e : check s ≡ Accepted) (at : ℕ → ℕ) where
   homes h calls (sub low high gosub deep frames) = refl
 
   -- every rule that the machine comes to is come to as it declares
-  pub arrives-as-declared : (k : ℕ) (t : State) → after n (ruleOf s) at k ≡ running t → AsDeclared (ruleOf s) (declaredOf s) t
+  pub arrives-as-declared : (k : ℕ) (t : MachineState) → after n (ruleOf s) at k ≡ running t → AsDeclared (ruleOf s) (declaredOf s) t
   arrives-as-declared k t come =
       let v : Inv n (ruleOf s) (declaredOf s) (t .number) (t .calls) (t .items) = (rw come at (reach k)) .0 in
       record { home = homes _ _ (v .frames); depth = v .depth; held = v .held }
@@ -58,17 +59,17 @@ module _ (s : List ℕ) (e : check s ≡ Accepted) (at : ℕ → ℕ) where
 -- ---- there is only one end
 
 -- what has ended stays so
-stays : (n : ℕ) (rule : ℕ → Rule) (at : ℕ → ℕ) (k a c : ℕ) (items : List Item) (d : ℕ) → after n rule at k ≡ ended a items c → after n rule at (d + k) ≡ ended a items c
+stays : (n : ℕ) (rule : ℕ → Rule) (at : ℕ → ℕ) (k : ℕ) (a : MachineAnswer) (c : ℕ) (items : List Item) (d : ℕ) → after n rule at k ≡ ended a items c → after n rule at (d + k) ≡ ended a items c
 unfolding after advance
 stays n rule at k a c items zero e = let z : 0 + k ≡ k = omega arith in rw z e
 stays n rule at k a c items (suc d) e = let z : suc d + k ≡ suc (d + k) = omega arith in rw z (rw (stays n rule at k a c items d e) refl)
 
-pub stays-later : (n : ℕ) (rule : ℕ → Rule) (at : ℕ → ℕ) (k l a c : ℕ) (items : List Item) → k ≤ l → after n rule at k ≡ ended a items c
+pub stays-later : (n : ℕ) (rule : ℕ → Rule) (at : ℕ → ℕ) (k l : ℕ) (a : MachineAnswer) (c : ℕ) (items : List Item) → k ≤ l → after n rule at k ≡ ended a items c
     → after n rule at l ≡ ended a items c
 stays-later n rule at k l a c items h e = let z : l ≡ l - k + k = omega arith in rw z (stays n rule at k a c items (l - k) e)
 
 -- whenever the machine has ended, it is the same end
-pub one-end : (n : ℕ) (rule : ℕ → Rule) (at : ℕ → ℕ) (k l a b c d : ℕ) (items others : List Item)
+pub one-end : (n : ℕ) (rule : ℕ → Rule) (at : ℕ → ℕ) (k l : ℕ) (a b : MachineAnswer) (c d : ℕ) (items others : List Item)
     → after n rule at k ≡ ended a items c → after n rule at l ≡ ended b others d → ended a items c ≡ ended b others d
 one-end n rule at k l a b c d items others e f = go (leb k l) refl
   where

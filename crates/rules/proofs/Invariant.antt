@@ -13,12 +13,13 @@ use Rattle.rules.specs.declared.Declared.{Declared}
 use Rattle.rules.specs.declared.Item.{Item}
 use Rattle.rules.specs.declared.Action.{Action}
 use Rattle.rules.specs.declared.Action.the-variants.{Unknown, Ignore, NoMatch, Count, CountPkt, Return, Gosub, Goto, PushRule, PushPkt, PopTo}
+use Rattle.rules.specs.declared.MachineAnswer.the-variants as answer
 use Rattle.rules.specs.declared.RuleCheck.the-variants.{Fine}
 use Rattle.rules.specs.Opcodes.{actionOf, isReturn, isGosub, gotoFlag}
 use Rattle.rules.specs.Bits.{masked}
-use Rattle.rules.specs.Machine.{State, Outcome, running, ended, stuck, passes, goes, comesBack, drops, act, fails, step, advance, after}
+use Rattle.rules.specs.Machine.{MachineState, Outcome, running, ended, stuck, passes, goes, comesBack, drops, act, fails, step, advance, after}
 use Rattle.rules.specs.Room.{Room}
-use Rattle.rules.specs.Checks.{some, differs, badTarget, aloneOf, badQueue, heldAfter, aims, comesBackNowhere, comesBackOtherwise, returnsNowhere, nextDiffers, targetDiffers, returnDiffers, restOf}
+use Rattle.rules.specs.Checks.{anyUpTo, differs, badTarget, aloneOf, badQueue, heldAfter, aims, comesBackNowhere, comesBackOtherwise, returnsNowhere, nextDiffers, targetDiffers, returnDiffers, restOf}
 use Rattle.rules.specs.Demand.{bound, EndsAt}
 use Rattle.rules.proofs.Tests.{or-false, and-false, fine-either, some-false, differs-false}
 use Rattle.rules.proofs.Bits.{masked-zero}
@@ -38,10 +39,10 @@ module _ (n : ℕ) (rule : ℕ → Rule) (declared : ℕ → Declared) where
 
   -- Return i comes back from some Gosub at no rule, or at one that declares otherwise
   abbrev someNowhere : ℕ → Bool
-  someNowhere i = some (comesBackNowhere n rule declared (declared i .home) (rule i .parameter)) n
+  someNowhere i = anyUpTo (comesBackNowhere n rule declared (declared i .home) (rule i .parameter)) n
 
   abbrev someOtherwise : ℕ → Bool
-  someOtherwise i = some (comesBackOtherwise n rule declared (declared i .home) (rule i .parameter) (declared i .held)) n
+  someOtherwise i = anyUpTo (comesBackOtherwise n rule declared (declared i .home) (rule i .parameter) (declared i .held)) n
 
   -- what the check has shown of rule i
   pub record Sound (i : ℕ) : Type 0 where
@@ -219,7 +220,7 @@ module _ (n : ℕ) (rule : ℕ → Rule) (declared : ℕ → Declared) where
         go false t = refl
 
     -- a failed test goes on to the next rule
-    fails-good : (s : State) → Inv (s .number) (s .calls) (s .items) → passes (rule (s .number)) (at (rule (s .number) .attribute)) ≡ false
+    fails-good : (s : MachineState) → Inv (s .number) (s .calls) (s .items) → passes (rule (s .number)) (at (rule (s .number) .attribute)) ≡ false
         → Good (left n (s .number) (s .calls)) (s .rules + 1) (fails n s)
     unfolding fails
     fails-good s v f = go (ltb i n) refl
@@ -229,14 +230,14 @@ module _ (n : ℕ) (rule : ℕ → Rule) (declared : ℕ → Declared) where
 
         go : (b : Bool) → ltb i n ≡ b
             → Good (left n i (s .calls)) (s .rules + 1)
-            (cond b (goes (i + 1) true (s .calls) (s .items) (s .rules + 1)) (ended 2 [] (s .rules + 1)))
+            (cond b (goes (i + 1) true (s .calls) (s .items) (s .rules + 1)) (ended answer.NoMatch [] (s .rules + 1)))
         go true t =
             let d : ltb i n && not (eqb (rule i .mask) 0 && eqb (rule i .value) 0) ≡ true = rw (t, zeros i f) in
             moves i (i + 1) (s .calls) (s .items) (s .items) true (s .rules + 1) (declared i .held) v (omega arith) (omega (arith, ltb-true i n t))
             (and-false _ _ (ok i (v .low) (v .high) .next) d) (v .held)
         go false t = (omega arith, refl)
 
-    pub step-good : (s : State) → Inv (s .number) (s .calls) (s .items) → Good (left n (s .number) (s .calls)) (s .rules + 1) (step n rule at s)
+    pub step-good : (s : MachineState) → Inv (s .number) (s .calls) (s .items) → Good (left n (s .number) (s .calls)) (s .rules + 1) (step n rule at s)
     unfolding step
     step-good s v = rw (le-leb 1 (s .number) (v .low), le-leb (s .number) n (v .high)) (go (s .testing) (passes (rule (s .number)) (at (rule (s .number) .attribute))) refl)
       where

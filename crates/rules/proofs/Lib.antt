@@ -5,5 +5,8 @@ pub mod Invariant
 pub mod Records
 pub mod Opcodes
 pub mod Accepted
+pub mod CheckAnswers
 pub mod Demand
 pub mod Steps
+pub mod Answers
+pub mod WithoutGosub

@@ -9,7 +9,7 @@ use Rattle.xdr.specs.Numbers.{numberAt}
 use Rattle.xdr.specs.Items.{numbersAt}
 use Rattle.xdr.proofs.Octets.{octet-number, pair-number, word-number}
 use Rattle.rules.specs.declared.RuleRecord.{RuleRecord}
-use Rattle.rules.specs.Records.{recordWidths, ruleIn, declaredIn, recordIn, noRecord, count, recordOf}
+use Rattle.rules.specs.Records.{recordWidths, ruleIn, declaredIn, recordIn, noRecord, ruleCount, recordOf}
 
 -- the numbers of a record, each at its offset
 fields-are : (s : List ℕ) (p : ℕ) → numbersAt s p recordWidths
@@ -55,16 +55,16 @@ module _ (s : List ℕ) (i : ℕ) where
   unfolding recordOf
   no-zeroth h = rw (lt-leb 1 i h)
 
-  pub none-behind : 1 ≤ i → count s < i → noRecord ≡ recordOf s i
+  pub none-behind : 1 ≤ i → ruleCount s < i → noRecord ≡ recordOf s i
   unfolding recordOf
-  none-behind l h = rw (le-leb 1 i l, lt-leb i (count s) h)
+  none-behind l h = rw (le-leb 1 i l, lt-leb i (ruleCount s) h)
 
-  pub record-there : 1 ≤ i → i ≤ count s → recordIn (numbersAt s (16 * (i - 1)) recordWidths) ≡ recordOf s i
+  pub record-there : 1 ≤ i → i ≤ ruleCount s → recordIn (numbersAt s (16 * (i - 1)) recordWidths) ≡ recordOf s i
   unfolding recordOf
-  record-there l h = rw (le-leb 1 i l, le-leb i (count s) h)
+  record-there l h = rw (le-leb 1 i l, le-leb i (ruleCount s) h)
 
   -- a record put together from its parts
-  pub record-joined : 1 ≤ i → i ≤ count s → (r : RuleRecord) → r .mark ≡ getD (numbersAt s (16 * (i - 1)) recordWidths) 0 0
+  pub record-joined : 1 ≤ i → i ≤ ruleCount s → (r : RuleRecord) → r .mark ≡ getD (numbersAt s (16 * (i - 1)) recordWidths) 0 0
       → r .rule ≡ ruleIn (numbersAt s (16 * (i - 1)) recordWidths) → r .declared ≡ declaredIn (numbersAt s (16 * (i - 1)) recordWidths)
       → r ≡ recordOf s i
   record-joined l h r a b c = (λ j. record { mark = a j; rule = b j; declared = c j }) ∙ record-there l h

@@ -10,7 +10,7 @@ use Rattle.rules.specs.declared.Declared.{Declared}
 use Rattle.rules.specs.declared.CheckRefusal.{CheckRefusal}
 use Rattle.rules.specs.declared.RuleCheck.{RuleCheck}
 use Rattle.rules.specs.declared.RuleCheck.the-variants.{Fine, Breaks}
-use Rattle.rules.specs.Checks.{orBreaks, orElse, some, differs}
+use Rattle.rules.specs.Checks.{orBreaks, unlessBroken, anyUpTo, differs}
 
 pub true-false : {A : Type 0} → true ≡ false → A
 true-false e = let z : _≡_ {A = ℕ} 0 1 = cc in absurd (omega arith)
@@ -27,16 +27,16 @@ pub fine-either : (b : Bool) (why : CheckRefusal) (next : RuleCheck) → orBreak
 fine-either true why next e = let z : _≡_ {A = ℕ} 0 1 = cc in absurd (omega arith)
 fine-either false why next e = (refl, e)
 
-pub fine-both : (a b : RuleCheck) → orElse a b ≡ Fine → (a ≡ Fine) × (b ≡ Fine)
+pub fine-both : (a b : RuleCheck) → unlessBroken a b ≡ Fine → (a ≡ Fine) × (b ≡ Fine)
 fine-both Fine b e = (refl, e)
 fine-both (Breaks why) b e = let z : _≡_ {A = ℕ} 0 1 = cc in absurd (omega arith)
 
-pub some-false : (f : ℕ → Bool) (n : ℕ) → some f n ≡ false → (g : ℕ) → 1 ≤ g → g ≤ n → f g ≡ false
+pub some-false : (f : ℕ → Bool) (n : ℕ) → anyUpTo f n ≡ false → (g : ℕ) → 1 ≤ g → g ≤ n → f g ≡ false
 some-false f zero e g l h = absurd (omega arith)
 some-false f (suc k) e g l h =
-    go (leb g k) refl (or-false (some f k) (f (suc k)) e) (λ m. some-false f k (or-false (some f k) (f (suc k)) e .0) g l m)
+    go (leb g k) refl (or-false (anyUpTo f k) (f (suc k)) e) (λ m. some-false f k (or-false (anyUpTo f k) (f (suc k)) e .0) g l m)
   where
-    go : (b : Bool) → leb g k ≡ b → (some f k ≡ false) × (f (suc k) ≡ false) → (g ≤ k → f g ≡ false) → f g ≡ false
+    go : (b : Bool) → leb g k ≡ b → (anyUpTo f k ≡ false) × (f (suc k) ≡ false) → (g ≤ k → f g ≡ false) → f g ≡ false
     go true t o ih = ih (leb-true _ _ t)
     go false t o ih = let m : g ≡ suc k = omega (arith, leb-false g k t) in rw m (o .1)
 

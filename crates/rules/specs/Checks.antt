@@ -1,5 +1,6 @@
 -- The check of a rule set (document 01, "Rule sets"): 30, then rules in number order, each from 31 up; the first that breaks one is named.
-use Prim.Native.Nat.{ℕ, zero, suc, _+_, _-_, _%_}
+use Prim.Native.Nat.{ℕ, zero, suc, _+_, _-_, _%_, _≤_, _<_}
+use mathlib.Core.Path.{_≡_}
 use mathlib.Core.List.{List, [], _∷_}
 use mathlib.Core.Bool.{Bool, false, not, cond, _&&_, _||_}
 use lib.ListN.{length}
@@ -15,20 +16,20 @@ use Rattle.rules.specs.declared.RuleCheck.the-variants.{Fine, Breaks}
 use Rattle.rules.specs.declared.CheckAnswer.{CheckAnswer}
 use Rattle.rules.specs.declared.CheckAnswer.the-variants.{Accepted, Refused}
 use Rattle.rules.specs.Opcodes.{actionOf, isReturn, isGosub, gotoFlag}
-use Rattle.rules.specs.Records.{count, recordOf, ruleOf, declaredOf}
+use Rattle.rules.specs.Records.{ruleCount, recordOf, ruleOf, declaredOf}
 
 -- the number of each refusal
-abbrev pub refusalNumber : CheckRefusal → ℕ
-refusalNumber Length = 30
-refusalNumber Mark = 31
-refusalNumber Attribute = 32
-refusalNumber Opcode = 33
-refusalNumber Limits = 34
-refusalNumber FirstRule = 35
-refusalNumber ReturnInMain = 36
-refusalNumber Target = 37
-refusalNumber Queue = 38
-refusalNumber Successor = 39
+abbrev pub checkNumber : CheckRefusal → ℕ
+checkNumber Length = 30
+checkNumber Mark = 31
+checkNumber Attribute = 32
+checkNumber Opcode = 33
+checkNumber Limits = 34
+checkNumber FirstRule = 35
+checkNumber ReturnInMain = 36
+checkNumber Target = 37
+checkNumber Queue = 38
+checkNumber Successor = 39
 
 -- ---- one test behind another
 
@@ -36,14 +37,14 @@ refusalNumber Successor = 39
 abbrev pub orBreaks : Bool → CheckRefusal → RuleCheck → RuleCheck
 orBreaks b why next = cond b (Breaks why) next
 
-abbrev pub orElse : RuleCheck → RuleCheck → RuleCheck
-orElse Fine next = next
-orElse (Breaks why) next = Breaks why
+abbrev pub unlessBroken : RuleCheck → RuleCheck → RuleCheck
+unlessBroken Fine next = next
+unlessBroken (Breaks why) next = Breaks why
 
 -- some number from 1 to n passes a test
-abbrev pub some : (ℕ → Bool) → ℕ → Bool
-some f zero = false
-some f (suc k) = some f k || f (suc k)
+abbrev pub anyUpTo : (ℕ → Bool) → ℕ → Bool
+anyUpTo f zero = false
+anyUpTo f (suc k) = anyUpTo f k || f (suc k)
 
 -- ---- 31 to 33, by a record alone
 
@@ -131,7 +132,7 @@ module _ (n : ℕ) (rule : ℕ → Rule) (declared : ℕ → Declared) where
 
   -- 37 of a Return, over all Gosubs
   unfoldable pub returnsNowhere : Rule → Declared → Bool
-  returnsNowhere r w = isReturn (actionOf (r .opcode)) && some (comesBackNowhere (w .home) (r .parameter)) n
+  returnsNowhere r w = isReturn (actionOf (r .opcode)) && anyUpTo (comesBackNowhere (w .home) (r .parameter)) n
 
   -- the next rule (r is rule i), if there is one and mask and value are not both 0, has the same three
   abbrev pub nextDiffers : ℕ → Rule → Declared → Bool
@@ -147,7 +148,7 @@ module _ (n : ℕ) (rule : ℕ → Rule) (declared : ℕ → Declared) where
 
   -- where a Return comes back, over all Gosubs
   abbrev pub returnDiffers : Rule → Declared → Bool
-  returnDiffers r w = isReturn (actionOf (r .opcode)) && some (comesBackOtherwise (w .home) (r .parameter) (w .held)) n
+  returnDiffers r w = isReturn (actionOf (r .opcode)) && anyUpTo (comesBackOtherwise (w .home) (r .parameter) (w .held)) n
 
   unfoldable pub restOf : ℕ → Rule → Declared → RuleCheck
   restOf i r w =
@@ -159,10 +160,10 @@ module _ (n : ℕ) (rule : ℕ → Rule) (declared : ℕ → Declared) where
 -- what rule i breaks
 unfoldable pub ruleCheck : List ℕ → ℕ → RuleCheck
 ruleCheck s i =
-    orElse (formOf (recordOf s i .mark) (ruleOf s i .attribute) (ruleOf s i .opcode))
-    (orElse (aloneOf (count s) i (ruleOf s i) (declaredOf s i))
-    (orBreaks (returnsNowhere (count s) (ruleOf s) (declaredOf s) (ruleOf s i) (declaredOf s i)) Target
-    (restOf (count s) (ruleOf s) (declaredOf s) i (ruleOf s i) (declaredOf s i))))
+    unlessBroken (formOf (recordOf s i .mark) (ruleOf s i .attribute) (ruleOf s i .opcode))
+    (unlessBroken (aloneOf (ruleCount s) i (ruleOf s i) (declaredOf s i))
+    (orBreaks (returnsNowhere (ruleCount s) (ruleOf s) (declaredOf s) (ruleOf s i) (declaredOf s i)) Target
+    (restOf (ruleCount s) (ruleOf s) (declaredOf s) i (ruleOf s i) (declaredOf s i))))
 
 abbrev pub named : RuleCheck → ℕ → CheckAnswer
 named Fine i = Accepted
@@ -173,13 +174,26 @@ orAnswer Accepted next = next
 orAnswer (Refused why i) next = Refused why i
 
 -- the first of rules 1 to k that breaks one
-unfoldable pub firstOf : (ℕ → RuleCheck) → ℕ → CheckAnswer
-firstOf f zero = Accepted
-firstOf f (suc k) = orAnswer (firstOf f k) (named (f (suc k)) (suc k))
+unfoldable pub firstBroken : (ℕ → RuleCheck) → ℕ → CheckAnswer
+firstBroken f zero = Accepted
+firstBroken f (suc k) = orAnswer (firstBroken f k) (named (f (suc k)) (suc k))
 
 -- no rule, a part of a record, or over 255 rules
 abbrev pub badLength : ℕ → Bool
 badLength len = eqb len 0 || not (eqb (len % 16) 0) || ltb 4080 len
 
 unfoldable pub check : List ℕ → CheckAnswer
-check s = cond (badLength (length s)) (Refused Length 0) (firstOf (ruleCheck s) (count s))
+check s = cond (badLength (length s)) (Refused Length 0) (firstBroken (ruleCheck s) (ruleCount s))
+
+-- ---- what an answer says of the rules, in document 01's words
+
+-- rule i is the first that breaks one, and this is what it breaks
+pub record FirstToBreak (s : List ℕ) (why : CheckRefusal) (i : ℕ) : Type 0 where
+  pub low : 1 ≤ i
+  pub high : i ≤ ruleCount s
+  pub breaks : ruleCheck s i ≡ Breaks why
+  pub below : (j : ℕ) → 1 ≤ j → j < i → ruleCheck s j ≡ Fine
+
+-- no rule breaks one
+abbrev pub AllFine : List ℕ → Type 0
+AllFine s = (i : ℕ) → 1 ≤ i → i ≤ ruleCount s → ruleCheck s i ≡ Fine

@@ -7,28 +7,30 @@ use Rattle.rules.specs.declared.Rule.{Rule}
 use Rattle.rules.specs.declared.Item.{Item}
 use Rattle.rules.specs.declared.Action.{Action}
 use Rattle.rules.specs.declared.Action.the-variants.{Unknown, Ignore, NoMatch, Count, CountPkt, Return, Gosub, Goto, PushRule, PushPkt, PopTo}
+use Rattle.rules.specs.declared.MachineAnswer.{MachineAnswer}
+use Rattle.rules.specs.declared.MachineAnswer.the-variants as answer
 use Rattle.rules.specs.Opcodes.{actionOf}
-use Rattle.rules.specs.Records.{exists}
+use Rattle.rules.specs.Records.{hasRule}
 use Rattle.rules.specs.Bits.{masked}
 
 -- the number of a rule, the test indicator, the return stack and the pattern queue (both the newest first), and how many rules were come to
-pub record State : Type 0 where
+pub record MachineState : Type 0 where
   pub number : ℕ
   pub testing : Bool
   pub calls : List ℕ
   pub items : List Item
   pub rules : ℕ
 
--- the answer of a run that has ended, by its opcode's number
+-- what the machine is found in: it runs on, has ended, or is stuck
 pub data Outcome : Type 0 where
-  running : State → Outcome
+  running : MachineState → Outcome
   -- the answer, the pattern queue for the key, and how many rules were come to
-  ended : ℕ → List Item → ℕ → Outcome
+  ended : MachineAnswer → List Item → ℕ → Outcome
   -- no answer
   stuck : Outcome
 
-abbrev pub start : State
-start = record { number = 1; testing = true; calls = []; items = []; rules = 0 }
+abbrev pub initial : MachineState
+initial = record { number = 1; testing = true; calls = []; items = []; rules = 0 }
 
 -- the test of a rule at its attribute's value; a test of Null always succeeds
 unfoldable pub passes : Rule → ℕ → Bool
@@ -58,10 +60,10 @@ drops to t calls (x ∷ items) k = goes to t calls items k
 -- the action of rule number i at its attribute's value v, with k rules come to
 unfoldable pub act : Action → Rule → ℕ → ℕ → List ℕ → List Item → ℕ → Outcome
 act Unknown r v i calls items k = stuck
-act Ignore r v i calls items k = ended 1 [] k
-act NoMatch r v i calls items k = ended 2 [] k
-act Count r v i calls items k = ended 3 (ruleItem r ∷ items) k
-act CountPkt r v i calls items k = ended 4 (packetItem r v ∷ items) k
+act Ignore r v i calls items k = ended answer.Ignore [] k
+act NoMatch r v i calls items k = ended answer.NoMatch [] k
+act Count r v i calls items k = ended answer.Count (ruleItem r ∷ items) k
+act CountPkt r v i calls items k = ended answer.CountPkt (packetItem r v ∷ items) k
 act Return r v i calls items k = comesBack calls (r .parameter) items k
 act (Gosub t) r v i calls items k = goes (r .parameter) t (i ∷ calls) items k
 act (Goto t) r v i calls items k = goes (r .parameter) t calls items k
@@ -70,14 +72,18 @@ act (PushPkt t) r v i calls items k = goes (r .parameter) t calls (packetItem r 
 act (PopTo t) r v i calls items k = drops (r .parameter) t calls items k
 
 -- a failed test goes to the next rule, or ends in NoMatch after the last
-unfoldable pub fails : ℕ → State → Outcome
-fails n s = cond (ltb (s .number) n) (goes (s .number + 1) true (s .calls) (s .items) (s .rules + 1)) (ended 2 [] (s .rules + 1))
+unfoldable pub fails : ℕ → MachineState → Outcome
+fails n s = cond (ltb (s .number) n) (goes (s .number + 1) true (s .calls) (s .items) (s .rules + 1)) (ended answer.NoMatch [] (s .rules + 1))
+
+-- the indicator is on, and the test of the rule that a state has come to fails
+abbrev pub testFails : (ℕ → Rule) → (ℕ → ℕ) → MachineState → Bool
+testFails rule at s = s .testing && not (passes (rule (s .number)) (at (rule (s .number) .attribute)))
 
 -- one step of n rules, at the values of the attributes
-unfoldable pub step : ℕ → (ℕ → Rule) → (ℕ → ℕ) → State → Outcome
+unfoldable pub step : ℕ → (ℕ → Rule) → (ℕ → ℕ) → MachineState → Outcome
 step n rule at s =
-    cond (exists n (s .number))
-    (cond (s .testing && not (passes (rule (s .number)) (at (rule (s .number) .attribute))))
+    cond (hasRule n (s .number))
+    (cond (testFails rule at s)
     (fails n s)
     (act (actionOf (rule (s .number) .opcode)) (rule (s .number)) (at (rule (s .number) .attribute)) (s .number) (s .calls) (s .items) (s .rules + 1)))
     stuck
@@ -90,5 +96,5 @@ advance n rule at stuck = stuck
 
 -- the machine after k steps
 unfoldable pub after : ℕ → (ℕ → Rule) → (ℕ → ℕ) → ℕ → Outcome
-after n rule at zero = running start
+after n rule at zero = running initial
 after n rule at (suc k) = advance n rule at (after n rule at k)

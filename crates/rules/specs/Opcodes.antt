@@ -5,6 +5,8 @@ use mathlib.Core.Bool.{Bool, true, false}
 use lib.ListN.{getD}
 use Rattle.rules.specs.declared.Action.{Action}
 use Rattle.rules.specs.declared.Action.the-variants.{Unknown, Ignore, NoMatch, Count, CountPkt, Return, Gosub, Goto, PushRule, PushPkt, PopTo}
+use Rattle.rules.specs.declared.MachineAnswer.{MachineAnswer}
+use Rattle.rules.specs.declared.MachineAnswer.the-variants as answer
 
 -- the actions of opcodes 0 to 17, with the test flag of those that have a goto flag; an Assign, 8 or 9, only goes to its parameter
 abbrev pub actions : List Action
@@ -22,6 +24,13 @@ actions =
 
 unfoldable pub actionOf : ℕ → Action
 actionOf opcode = getD actions opcode Unknown
+
+-- the number of each answer: the opcode whose name it is
+abbrev pub machineNumber : MachineAnswer → ℕ
+machineNumber answer.Ignore = 1
+machineNumber answer.NoMatch = 2
+machineNumber answer.Count = 3
+machineNumber answer.CountPkt = 4
 
 abbrev pub isReturn : Action → Bool
 isReturn Unknown = false

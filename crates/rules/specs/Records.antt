@@ -29,16 +29,16 @@ abbrev pub noRecord : RuleRecord
 noRecord = recordIn []
 
 -- how many rules there are in octets
-abbrev pub count : List ℕ → ℕ
-count s = length s / 16
+abbrev pub ruleCount : List ℕ → ℕ
+ruleCount s = length s / 16
 
 -- of n rules, numbered from 1, there is a rule i
-abbrev pub exists : ℕ → ℕ → Bool
-exists n i = leb 1 i && leb i n
+abbrev pub hasRule : ℕ → ℕ → Bool
+hasRule n i = leb 1 i && leb i n
 
 -- record i of a rule set
 unfoldable pub recordOf : List ℕ → ℕ → RuleRecord
-recordOf s i = cond (exists (count s) i) (recordIn (numbersAt s (16 * (i - 1)) recordWidths)) noRecord
+recordOf s i = cond (hasRule (ruleCount s) i) (recordIn (numbersAt s (16 * (i - 1)) recordWidths)) noRecord
 
 -- what the machine is fed of it, and what it declares
 abbrev pub ruleOf : List ℕ → ℕ → Rule

@@ -4,9 +4,9 @@ ghost use mathlib.Core.Path.{_≡_};
 ghost use Prim.Native.Nat.{_+_, _*_, _≤_};
 ghost use lib.ListN.{length};
 ghost use Rattle.xdr.specs.Items.{numbersAt};
-ghost use Rattle.rules.specs.Opcodes.{actionOf};
+ghost use Rattle.rules.specs.Opcodes.{actionOf, machineNumber};
 ghost use Rattle.rules.specs.Records.{recordWidths, ruleIn, declaredIn, noRecord, recordOf};
-ghost use Rattle.rules.specs.Checks.{refusalNumber};
+ghost use Rattle.rules.specs.Checks.{checkNumber};
 
 // A rule as the machine is fed it.
 pub struct Rule {
@@ -53,6 +53,14 @@ pub enum Action {
     PopTo(bool),
 }
 
+// What the machine ends in: the name of an opcode from 1 to 4.
+pub enum MachineAnswer {
+    Ignore,
+    NoMatch,
+    Count,
+    CountPkt,
+}
+
 // Why a rule set is refused.
 pub enum CheckRefusal {
     // no rule, a part of a record, or over 255 rules
@@ -88,7 +96,7 @@ pub enum CheckAnswer {
 
 // Document 01's number of a refusal.
 pub fn refusal_number(why: CheckRefusal) -> u32
-    ensures { λ r. ⌜ r ≡ refusalNumber why ⌝ }
+    ensures { λ r. ⌜ r ≡ checkNumber why ⌝ }
 {
     match why {
         CheckRefusal::Length => 30,
@@ -127,6 +135,18 @@ pub fn action_of(opcode: u8) -> Action
         16 => Action::PopTo(true),
         17 => Action::PopTo(false),
         _ => Action::Unknown,
+    }
+}
+
+// Document 01's number of an answer: its opcode's.
+pub fn machine_number(answer: MachineAnswer) -> u32
+    ensures { λ r. ⌜ r ≡ machineNumber answer ⌝ }
+{
+    match answer {
+        MachineAnswer::Ignore => 1,
+        MachineAnswer::NoMatch => 2,
+        MachineAnswer::Count => 3,
+        MachineAnswer::CountPkt => 4,
     }
 }
 

@@ -13,7 +13,7 @@ use Rattle.xdr.proofs.Runs.{items-read}
 use Rattle.sflow.specs.Decode.{Decoded, found, refused, andThen, mapped, fixedItems, decode}
 use Rattle.sflow.specs.Datagram.{flow-sample, counters-type, counters-sample, sample-type}
 use Rattle.sflow.proofs.Steps.{then-is}
-use Rattle.counter_data.specs.CounterBodies.{counterValuesOf}
+use Rattle.counter_data.specs.CounterBodies.{countersFound}
 use Rattle.reader.specs.declared.sample.CountersSample.{CountersSample}
 use Rattle.reader.specs.declared.sample.Sample.{Sample}
 use Rattle.reader.specs.declared.sample.SampleValues.{SampleValues}
@@ -21,7 +21,6 @@ use Rattle.reader.specs.declared.sample.SampleValues.the-variants.{Flow, Counte
 use Rattle.reader.specs.declared.sample.SampleRead.{SampleRead}
 use Rattle.reader.specs.declared.sample.SampleRead.the-variants.{Found, Refused}
 use Rattle.reader.specs.Samples.{countersOf, sampleBy, sampleOf, asSample}
-use Rattle.sample_calls.specs.SampleReports.{countersIn}
 
 abbrev PlacedValues : SampleValues → Type 0
 PlacedValues (Flow x) = Unit {0}
@@ -74,7 +73,7 @@ behind : (s : List ℕ) (at : ℕ) → Behind s at (decode counters-sample s at)
 behind s at = rw (then-is (fixed words) counters-type s at, fixed-is s at words) (behind-run s at (itemsAt s at words) refl)
 
 pub counters-found : (s : List ℕ) (at : ℕ) (v : Value counters-sample) (end : ℕ) → decode counters-sample s at ≡ found v end
-    → countersIn s (countersOf at v) ≡ counterValuesOf (found (v .1) end)
+    → countersFound (decode counters-type s (countersOf at v .counters .at - 4)) ≡ v .1 .1
 counters-found s at v end e =
     let h : decode counters-type s (at + 12) ≡ found (v .1) end = subst (Behind s at) e (behind s at) in
     let k : at + 12 + 4 - 4 ≡ at + 12 = omega arith in

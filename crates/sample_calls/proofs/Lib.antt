@@ -1,1 +1,2 @@
 pub mod CounterPlaces
+pub mod Told

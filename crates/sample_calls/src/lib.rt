@@ -13,11 +13,12 @@ use reader::sample::SampleValues;
 ghost use Prim.Native.Nat.{_≤_};
 ghost use mathlib.Core.Path.{_≡_};
 ghost use mathlib.Core.List.{_∷_};
+ghost use Rattle.xdr.specs.Writes.{afterwards};
 ghost use Rattle.sflow.specs.Decode.{decode, mapped};
 ghost use Rattle.sflow.specs.Datagram.{sample-type};
 ghost use Rattle.packet_data.specs.declared.PacketData.the-variants.{Ipv6};
 ghost use Rattle.reader.specs.Samples.{sampleOf, asSample};
-ghost use Rattle.numbers.specs.Reports.{filled, filledBehind, told, tell};
+ghost use Rattle.numbers.specs.Reports.{filled, filledBehind, tell};
 ghost use Rattle.numbers.specs.Addresses.{quadNumbers};
 ghost use Rattle.sample_calls.specs.SampleReports.{
   packetType,
@@ -150,7 +151,10 @@ fn fill_counters(octets: &[u8], offset: usize, length: usize, x: CountersSample,
             x.counters.version as u64,
         ],
     );
-    counter_calls::fill_values(octets, x.counters.at - 4, out);
+    if out.len() <= 7 {
+        return;
+    }
+    counter_calls::fill_values(octets, x.counters.at - 4, &mut out[7..]);
 }
 
 // Reads a sample at its type word. Answers 0 where it is well formed; the array takes:
@@ -165,7 +169,7 @@ fn fill_counters(octets: &[u8], offset: usize, length: usize, x: CountersSample,
 //     8 to 44 the counters in the RFC's order, zeros behind them.
 // Else it answers the refusal's number, 1 or 3 to 12, and the array takes the refusal's offset. An offset past the end is a cut item there.
 pub fn sample(octets: &[u8], at: usize, out: &mut [u64]) -> u32
-    ensures { λ r. ⌜ told r (now (out .exit))
+    ensures { λ r. ⌜ afterwards r (now (out .exit))
         ≡ tell (sampleReport (now (octets .entry)) (asSample at (mapped (sampleOf at) (decode sample-type (now (octets .entry)) at)))) (now (out .entry)) ⌝ }
 {
     match reader::sample::read_sample(octets, at) {

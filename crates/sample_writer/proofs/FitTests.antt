@@ -4,17 +4,16 @@ use native.Mathlib.Numerals.{add-one}
 use native.Mathlib.Omega.{arith}
 use mathlib.Core.Path.{_≡_, refl, sym, ap}
 use mathlib.Core.Logic.{inl, inr, ⊎-elim}
-use mathlib.Core.Bool.{Bool, true, false, cond, _||_}
+use mathlib.Core.Bool.{Bool, true, false, cond, _&&_, _||_}
 use mathlib.Core.List.{List, [], _∷_}
 use lib.ListN.{length, getD, drop, drop-of-length-le}
 use lib.Seq.{drop-cons}
 use lib.Dec.{T, eqb, ltb}
 use borrow.Author.Tests.{eqb-true, ltb-true, lt-ltb}
-use Rattle.xdr.proofs.Reading.{never}
-use Rattle.sflow.specs.Grammar.{Fits, Each}
+use Rattle.sflow.specs.Grammar.{Fits, Each, eachFits}
+use Rattle.sflow.proofs.Allows.{fits-exactly}
 use Rattle.counter_data.specs.CounterBodies.{wordsAndHypers}
-use Rattle.form_writer.proofs.Allowances.{both-held}
-use Rattle.sample_writer.specs.CounterValues.{WordOrHyper, fitEach}
+use Rattle.sample_writer.specs.CounterValues.{WordOrHyper}
 
 -- ---- one number
 
@@ -50,20 +49,8 @@ first-width ws i h e = rw add-one (rw (drop-cons ws i 0 h) at e)
 -- ---- the test of all numbers
 
 -- numbers that pass the test fit their widths as the grammar says it
-pub fits-told : (ws ns : List ℕ) → fitEach ws ns ≡ true → Fits ws ns
-unfolding fitEach
-fits-told [] [] e = tt
-fits-told [] (v ∷ vs) e = absurd (never (cc))
-fits-told (w ∷ ws) [] e = absurd (never (cc))
-fits-told (w ∷ ws) (v ∷ vs) e = let h = both-held (ltb v (256 ^ w)) (fitEach ws vs) e in (ltb-true v (256 ^ w) (h .0), fits-told ws vs (h .1))
-
--- and numbers that fit their widths as the grammar says it pass the test
-pub fits-tested : (ws ns : List ℕ) → Fits ws ns → fitEach ws ns ≡ true
-unfolding fitEach
-fits-tested [] [] f = refl
-fits-tested [] (v ∷ vs) f = absurd f
-fits-tested (w ∷ ws) [] f = absurd f
-fits-tested (w ∷ ws) (v ∷ vs) f = rw (lt-ltb v (256 ^ w) (f .0)) (fits-tested ws vs (f .1))
+pub fits-told : (ws ns : List ℕ) → eachFits ws ns ≡ true → Fits ws ns
+fits-told ws ns e = fits-exactly ws ns .0 e
 
 -- numbers that fit their widths are as many
 pub fits-length : (ws ns : List ℕ) → Fits ws ns → length ns ≡ length ws
@@ -73,10 +60,10 @@ fits-length (w ∷ ws) [] f = absurd f
 fits-length (w ∷ ws) (v ∷ vs) f = ap suc (fits-length ws vs (f .1))
 
 -- another number of numbers than of widths does not pass
-pub other-length : (ws ns : List ℕ) → (length ns ≡ length ws → ⊥) → false ≡ fitEach ws ns
-other-length ws ns n = go (fitEach ws ns) refl
+pub other-length : (ws ns : List ℕ) → (length ns ≡ length ws → ⊥) → false ≡ eachFits ws ns
+other-length ws ns n = go (eachFits ws ns) refl
   where
-    go : (b : Bool) → fitEach ws ns ≡ b → false ≡ b
+    go : (b : Bool) → eachFits ws ns ≡ b → false ≡ b
     go true e = absurd (n (fits-length ws ns (fits-told ws ns e)))
     go false e = refl
 
@@ -84,21 +71,19 @@ other-length ws ns n = go (fitEach ws ns) refl
 
 -- the test from an index on is that of the number there, and then of those behind it
 fit-first : (ws ns : List ℕ) (i : ℕ) → i < length ws → length ns ≡ length ws
-    → fitEach (drop i ws) (drop i ns) ≡ cond (ltb (getD ns i 0) (256 ^ getD ws i 0)) (fitEach (drop (i + 1) ws) (drop (i + 1) ns)) false
-unfolding fitEach
+    → eachFits (drop i ws) (drop i ns) ≡ (ltb (getD ns i 0) (256 ^ getD ws i 0) && eachFits (drop (i + 1) ws) (drop (i + 1) ns))
 fit-first ws ns i h e = let k : i < length ns = omega arith in rw (add-one, drop-cons ws i 0 h, drop-cons ns i 0 k)
 
 -- a number that fits leaves those behind it to test
 pub fit-more : (ws ns : List ℕ) (i : ℕ) → i < length ws → length ns ≡ length ws → ltb (getD ns i 0) (256 ^ getD ws i 0) ≡ true
-    → fitEach (drop (i + 1) ws) (drop (i + 1) ns) ≡ fitEach (drop i ws) (drop i ns)
+    → eachFits (drop (i + 1) ws) (drop (i + 1) ns) ≡ eachFits (drop i ws) (drop i ns)
 fit-more ws ns i h e t = rw (fit-first ws ns i h e, t)
 
 -- a number that does not fit ends the test
 pub fit-stop : (ws ns : List ℕ) (i : ℕ) → i < length ws → length ns ≡ length ws → ltb (getD ns i 0) (256 ^ getD ws i 0) ≡ false
-    → false ≡ fitEach (drop i ws) (drop i ns)
+    → false ≡ eachFits (drop i ws) (drop i ns)
 fit-stop ws ns i h e t = rw (fit-first ws ns i h e, t)
 
 -- behind the last number nothing is left to test
-pub fit-end : (ws ns : List ℕ) (i : ℕ) → length ws ≤ i → length ns ≡ length ws → true ≡ fitEach (drop i ws) (drop i ns)
-unfolding fitEach
+pub fit-end : (ws ns : List ℕ) (i : ℕ) → length ws ≤ i → length ns ≡ length ws → true ≡ eachFits (drop i ws) (drop i ns)
 fit-end ws ns i h e = let k : length ns ≤ i = omega arith in rw (drop-of-length-le ws h, drop-of-length-le ns k)

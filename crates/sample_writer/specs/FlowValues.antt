@@ -1,27 +1,28 @@
--- Flow samples that writers write, with packet data and extended data given as octets (document 01, "Writer", number 22).
+-- Flow samples that writers write, as values of the grammar: their extended data are given as octets that the entries' writers wrote (document 01, "Writer").
 use Prim.Native.Nat.{ℕ}
-use mathlib.Core.Bool.{Bool, false, cond}
+use mathlib.Core.Bool.{Bool, true, false}
 use mathlib.Core.List.{List, [], _∷_}
-use lib.ListN.{length}
-use Rattle.sflow.specs.Grammar.{Form}
-use Rattle.sflow.specs.Decode.{decode}
-use Rattle.sflow.specs.Datagram.{packet-data-type, extended-data-type}
+use mathlib.Core.Option.{Option, none, some}
+use Rattle.sflow.specs.Grammar.{Value}
+use Rattle.sflow.specs.Datagram.{packet-data-type, extended-data-type, sample-type}
 use Rattle.reader.specs.declared.sample.FlowWords.{FlowWords}
-use Rattle.form_writer.specs.Parts.{joinedOctets}
-use Rattle.form_writer.specs.Values.{endsAt, areEntries}
 
--- octets that are exactly one value of a form
-abbrev pub isOne : Form → List ℕ → Bool
-isOne g xs = endsAt (length xs) (decode g xs 0)
+-- sequence number, source id, sampling rate, sample pool, drops, input, output
+abbrev pub flowWordsValue : FlowWords → List ℕ
+flowWordsValue w =
+    w .«sequence_number» ∷ w .«source_id» ∷ w .«sampling_rate» ∷ w .«sample_pool» ∷ w .drops ∷ w .input ∷ w .output ∷ []
 
--- the packet data have to be exactly one, and the extended data so many
-abbrev pub flowAllowed : List ℕ → ℕ → List ℕ → Bool
-flowAllowed packet count extended = cond (isOne packet-data-type packet) (areEntries extended-data-type count extended) false
+-- a flow sample with its type word: the words; packet data; extended entries
+abbrev pub flowValue : FlowWords → Value packet-data-type → List (Value extended-data-type) → Value sample-type
+flowValue w packet extended = (1, (flowWordsValue w, (packet, extended)))
 
--- the words of a flow sample, its type word first
-abbrev pub flowHead : FlowWords → List ℕ
-flowHead w =
-    1 ∷ w .«sequence_number» ∷ w .«source_id» ∷ w .«sampling_rate» ∷ w .«sample_pool» ∷ w .drops ∷ w .input ∷ w .output ∷ []
+-- the same of parts that have to be given
+abbrev pub flowGiven : FlowWords → Option (Value packet-data-type) → Option (List (Value extended-data-type)) → Option (Value sample-type)
+flowGiven w none extended = none
+flowGiven w (some packet) none = none
+flowGiven w (some packet) (some extended) = some (flowValue w packet extended)
 
-abbrev pub flowOctets : FlowWords → List ℕ → ℕ → List ℕ → List ℕ
-flowOctets w packet count extended = joinedOctets (flowHead w) packet (count ∷ []) extended
+-- whether a part is given
+abbrev pub isGiven : {A : Type 0} → Option A → Bool
+isGiven none = false
+isGiven (some x) = true

@@ -4,17 +4,18 @@ use form_writer::parts::WriteAnswer;
 use xdr::Written;
 ghost use mathlib.Core.Path.{_≡_};
 ghost use mathlib.Core.List.{_++_};
+ghost use mathlib.Core.Option.{some};
 ghost use Prim.Native.Nat.{_+_, _^_, _<_, _≤_};
 ghost use lib.Dec.{T, ltb};
 ghost use lib.ListN.{length};
 ghost use Rattle.xdr.specs.Numbers.{octetsOf};
-ghost use Rattle.xdr.specs.Items.{sum};
-ghost use Rattle.xdr.specs.Writes.{stored, writeAt, wrote};
-ghost use Rattle.sflow.specs.Grammar.{Fits, Each, octetsOfEach, encode};
+ghost use Rattle.xdr.specs.Items.{totalWidth};
+ghost use Rattle.xdr.specs.Writes.{stored, writeAt, afterwards};
+ghost use Rattle.sflow.specs.Grammar.{Fits, Each, eachFits, octetsOfEach};
 ghost use Rattle.sflow.specs.Datagram.{sample-type};
 ghost use Rattle.counter_data.specs.CounterBodies.{wordsAndHypers};
-ghost use Rattle.form_writer.specs.Parts.{outcome, writeValue, wordsOctets};
-ghost use Rattle.sample_writer.specs.CounterValues.{WordOrHyper, fitEach, countersAllowed, countersValue};
+ghost use Rattle.form_writer.specs.Parts.{writeValue, writeGiven, wordsOctets};
+ghost use Rattle.sample_writer.specs.CounterValues.{WordOrHyper, countersValue};
 
 // Whether a number fits a width, a word's or a hyper's.
 fn fits_width(width: u8, v: u64) -> bool
@@ -30,7 +31,7 @@ fn fits_width(width: u8, v: u64) -> bool
 // Whether there are as many numbers as widths, and each fits its own.
 fn each_fits(widths: &[u8], numbers: &[u64]) -> bool
     requires { ⌜ Each WordOrHyper (now widths) ⌝ }
-    ensures { λ r. ⌜ r ≡ fitEach (now (widths .entry)) (now (numbers .entry)) ⌝ }
+    ensures { λ r. ⌜ r ≡ eachFits (now (widths .entry)) (now (numbers .entry)) ⌝ }
 {
     if numbers.len() != widths.len() {
         return false;
@@ -49,7 +50,7 @@ fn each_fits(widths: &[u8], numbers: &[u64]) -> bool
 // A number that fits a width, a word's or a hyper's.
 fn write_number(d: &mut [u8], at: usize, width: u8, v: u64) -> Written
     requires { ⌜ WordOrHyper width × (v < 256 ^ width) ⌝ }
-    ensures { λ r. ⌜ wrote r (now (d .exit)) ≡ writeAt (now (d .entry)) at (octetsOf width v) ⌝ }
+    ensures { λ r. ⌜ afterwards r (now (d .exit)) ≡ writeAt (now (d .entry)) at (octetsOf width v) ⌝ }
 {
     if width == 8 {
         return xdr_write::write_hyper(d, at, v);
@@ -59,7 +60,7 @@ fn write_number(d: &mut [u8], at: usize, width: u8, v: u64) -> Written
 
 // Numbers that fit their widths, in place of the octets from an offset on.
 fn put_numbers(d: &mut [u8], at: usize, widths: &[u8], numbers: &[u64])
-    requires { ⌜ Each WordOrHyper (now widths) × Fits (now widths) (now numbers) × (at + sum (now widths) ≤ length (now d)) ⌝ }
+    requires { ⌜ Each WordOrHyper (now widths) × Fits (now widths) (now numbers) × (at + totalWidth (now widths) ≤ length (now d)) ⌝ }
     ensures { λ _. ⌜ now (d .exit) ≡ stored (now (d .entry)) at (octetsOfEach (now (widths .entry)) (now (numbers .entry))) ⌝ }
 {
     let mut i = 0;
@@ -79,9 +80,9 @@ fn write_numbers(
     widths: &[u8],
     numbers: &[u64],
 ) -> WriteAnswer
-    requires { ⌜ T (wordsAndHypers (now widths)) × (length (now head) ≡ 5) × (total ≡ 20 + sum (now widths)) ⌝ }
-    ensures { λ r. ⌜ outcome r (now (d .exit))
-        ≡ writeValue (fitEach (now (widths .entry)) (now (numbers .entry))) (wordsOctets (now (head .entry)) ++ octetsOfEach (now (widths .entry)) (now (numbers .entry))) (now (d .entry)) ⌝ }
+    requires { ⌜ T (wordsAndHypers (now widths)) × (length (now head) ≡ 5) × (total ≡ 20 + totalWidth (now widths)) ⌝ }
+    ensures { λ r. ⌜ afterwards r (now (d .exit))
+        ≡ writeValue (eachFits (now (widths .entry)) (now (numbers .entry))) (wordsOctets (now (head .entry)) ++ octetsOfEach (now (widths .entry)) (now (numbers .entry))) (now (d .entry)) ⌝ }
 {
     if each_fits(widths, numbers) {
         if d.len() < total {
@@ -103,8 +104,8 @@ pub fn write_counters(
     version: u32,
     numbers: &[u64],
 ) -> WriteAnswer
-    ensures { λ r. ⌜ outcome r (now (d .exit))
-        ≡ writeValue (countersAllowed version (now (numbers .entry))) (encode sample-type (countersValue «sequence_number» «source_id» «sampling_interval» version (now (numbers .entry)))) (now (d .entry)) ⌝ }
+    ensures { λ r. ⌜ afterwards r (now (d .exit))
+        ≡ writeGiven sample-type (some (countersValue «sequence_number» «source_id» «sampling_interval» version (now (numbers .entry)))) (now (d .entry)) ⌝ }
 {
     let head = [2, sequence_number, source_id, sampling_interval, version];
     match version {

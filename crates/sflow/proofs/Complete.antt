@@ -8,13 +8,13 @@ use borrow.Author.Tests.{le-leb}
 use Rattle.xdr.specs.Writes.{paddedOctets}
 use Rattle.xdr.proofs.Tests.{is-true}
 use Rattle.sflow.specs.Slices.{Slice}
-use Rattle.sflow.specs.Grammar.{Limit, none, atMost, Form, fixed, union, opaque, list, _then_, Value, Within, Each, Valid, encode}
+use Rattle.sflow.specs.Grammar.{Limit, unlimited, atMost, Form, fixed, discriminated, opaque, list, _then_, Value, Within, Each, Valid, encode}
 use Rattle.sflow.specs.Decode.{Decoded, found, limited, entries, decode}
 use Rattle.sflow.proofs.Slices.{ends, first, second}
 use Rattle.sflow.proofs.Items.{word-read, word-rest, items-read, string-read}
 
 within : {A : Type 0} (limit : Limit) (n at : ℕ) (d : Decoded A) → Within limit n → limited limit n at d ≡ d
-within none n at d h = refl
+within unlimited n at d h = refl
 within (atMost most why) n at d h = rw (le-leb n most h)
 
 entries-complete : (g : Form) (s : List ℕ) → ((v : Value g) → Valid g v → (at next : ℕ) → Slice s at next (encode g v) → decode g s at ≡ found v next)
@@ -28,7 +28,7 @@ entries-complete g s one (v ∷ vs) h at next p =
 pub complete : (g : Form) (v : Value g) → Valid g v → (s : List ℕ) (at next : ℕ) → Slice s at next (encode g v) → decode g s at ≡ found v next
 unfolding decode encode
 complete (fixed ws) vs h s at next p = let r = items-read s ws vs at next h p in rw (r .items, r .numbers)
-complete (union why test arms) v h s at next p =
+complete (discriminated why test arms) v h s at next p =
     rw (
       word-read s at (v .0) next (encode (arms (v .0)) (v .1)) (h .0) p,
       is-true (test (v .0)) (h .1),

@@ -19,7 +19,7 @@ use Rattle.xdr.specs.declared.Zeros.the-variants.{AllZero, NotZero}
 use Rattle.xdr.specs.declared.PaddedRead.the-variants.{CutPadded}
 use Rattle.sflow.specs.declared.Refusal.{Refusal}
 use Rattle.sflow.specs.declared.Refusal.the-variants.{CutItem}
-use Rattle.sflow.specs.Grammar.{Limit, none, atMost, Form, fixed, union, opaque, list, _then_, Value, octetsOfEach, encode}
+use Rattle.sflow.specs.Grammar.{Limit, unlimited, atMost, Form, fixed, discriminated, opaque, list, _then_, Value, octetsOfEach, encode}
 use Rattle.sflow.specs.Decode.{Decoded, found, refused, andThen, wordItem, fixedItems, stringItem, limited, entries, decode}
 
 -- the value that is found has a length, and ends so far behind an offset
@@ -95,7 +95,7 @@ string-end limit s at n = go (leb (at + 4 + padded n) (length s)) refl
     go false e = tt
 
 limited-end : (limit : Limit) (n at : ℕ) (size′ : List ℕ → ℕ) (d : Decoded (List ℕ)) → EndsAfter size′ at d → EndsAfter size′ at (limited limit n at d)
-limited-end none n at size′ d h = h
+limited-end unlimited n at size′ d h = h
 limited-end (atMost most why) n at size′ d h = go (leb n most)
   where
     go : (b : Bool) → EndsAfter size′ at (cond b d (refused why at))
@@ -118,12 +118,12 @@ list-end g n at (found vs end) h = rw (length-append, octets-length) (omega arit
 list-end g n at (refused why p) h = tt
 
 union-end : (why : Refusal) (test : ℕ → Bool) (arms : ℕ → Form) (at v : ℕ) (d : Decoded (Value (arms v))) → EndsAfter (size (arms v)) (at + 4) d
-    → EndsAfter (size (union why test arms)) at (cond (test v) (andThen d λ w end. found (v, w) end) (refused why at))
+    → EndsAfter (size (discriminated why test arms)) at (cond (test v) (andThen d λ w end. found (v, w) end) (refused why at))
 unfolding encode
 union-end why test arms at v d h = go (test v) d h
   where
     go : (b : Bool) (e : Decoded (Value (arms v))) → EndsAfter (size (arms v)) (at + 4) e
-        → EndsAfter (size (union why test arms)) at (cond b (andThen e λ w end. found (v, w) end) (refused why at))
+        → EndsAfter (size (discriminated why test arms)) at (cond b (andThen e λ w end. found (v, w) end) (refused why at))
     go true (found w end) q = rw (length-append, octets-length) (omega arith)
     go true (refused y p) q = tt
     go false e q = tt
@@ -131,8 +131,8 @@ union-end why test arms at v d h = go (test v) d h
 form-end : (g : Form) (s : List ℕ) (at : ℕ) → EndsAfter (size g) at (decode g s at)
 unfolding decode encode
 form-end (fixed ws) s at = fixed-end s ws at
-form-end (union why test arms) s at =
-    on-word (EndsAfter (size (union why test arms)) at) _ s at tt
+form-end (discriminated why test arms) s at =
+    on-word (EndsAfter (size (discriminated why test arms)) at) _ s at tt
     (λ v. union-end why test arms at v (decode (arms v) s (at + 4)) (form-end (arms v) s (at + 4)))
 form-end (opaque limit) s at =
     on-word (EndsAfter (size (opaque limit)) at) _ s at tt

@@ -10,7 +10,7 @@ use lib.Seq.{take-at}
 use lib.Dec.{leb, eqb}
 use borrow.Author.Tests.{le-leb, leb-true, eqb-true, eq-eqb}
 use Rattle.xdr.specs.Numbers.{Octets, numberAt, octetsOf}
-use Rattle.xdr.specs.Items.{wordAt, itemsAt, numbersAt, sum, zerosAt, padded, withPadding, paddedAt}
+use Rattle.xdr.specs.Items.{wordAt, itemsAt, numbersAt, totalWidth, zerosAt, padded, withPadding, paddedAt}
 use Rattle.xdr.specs.Writes.{paddedOctets}
 use Rattle.xdr.proofs.Octets.{octets-length}
 use Rattle.xdr.specs.declared.WordRead.the-variants.{Word}
@@ -97,7 +97,7 @@ items-good s o (w ∷ ws) at h = go (leb (at + w) (length s)) refl (items-good s
     go true e rest = let room : at + w ≤ length s = leb-true _ _ e in more room (itemsAt s (at + w) ws) (rest room)
     go false e rest = tt
 
-pub each-length : (ws vs : List ℕ) → Fits ws vs → length (octetsOfEach ws vs) ≡ sum ws
+pub each-length : (ws vs : List ℕ) → Fits ws vs → length (octetsOfEach ws vs) ≡ totalWidth ws
 unfolding octetsOfEach
 each-length [] [] f = refl
 each-length [] (v ∷ vs) f = absurd f

@@ -5,3 +5,6 @@ pub mod Ends
 pub mod Sound
 pub mod Complete
 pub mod Theorems
+pub mod Allows
+pub mod Exact
+pub mod Fours

@@ -16,7 +16,7 @@ use Rattle.xdr.specs.declared.PaddedRead.the-variants.{Padded, CutPadded, Nonze
 use Rattle.sflow.specs.declared.Refusal.{Refusal}
 use Rattle.sflow.specs.declared.Refusal.the-variants.{CutItem}
 use Rattle.sflow.specs.Slices.{Slice}
-use Rattle.sflow.specs.Grammar.{Limit, none, atMost, Form, fixed, union, opaque, list, _then_, Value, Within, Each, Valid, encode}
+use Rattle.sflow.specs.Grammar.{Limit, unlimited, atMost, Form, fixed, discriminated, opaque, list, _then_, Value, Within, Each, Valid, encode}
 use Rattle.sflow.specs.Decode.{Decoded, found, refused, andThen, wordItem, fixedItems, stringItem, limited, entries, decode}
 use Rattle.sflow.proofs.Slices.{empty, join, octets-drop, octets-take}
 use Rattle.sflow.proofs.Items.{WordSlice, word-slice, RunGood, items-good, StringGood, string-good}
@@ -65,7 +65,7 @@ string-sound limit s o at n next w fits = go (paddedAt s next n) (string-good s 
 
 opaque-good : (limit : Limit) (s : List ℕ) → Octets s → (at n next : ℕ) → WordSlice s at n next
     → Good (opaque limit) s at (limited limit n at (stringItem (take n (drop next s)) (paddedAt s next n)))
-opaque-good none s o at n next w = string-sound none s o at n next w tt
+opaque-good unlimited s o at n next w = string-sound unlimited s o at n next w tt
 opaque-good (atMost most why) s o at n next w = go (leb n most) refl
   where
     go : (b : Bool) → leb n most ≡ b
@@ -113,7 +113,7 @@ list-good g s at n next w (refused why p) q = tt
 -- ---- forms
 
 arm-good : (why : Refusal) (test : ℕ → Bool) (arms : ℕ → Form) (s : List ℕ) (at v next : ℕ) → WordSlice s at v next → T (test v)
-    → (d : Decoded (Value (arms v))) → Good (arms v) s next d → Good (union why test arms) s at (andThen d λ w end. found (v, w) end)
+    → (d : Decoded (Value (arms v))) → Good (arms v) s next d → Good (discriminated why test arms) s at (andThen d λ w end. found (v, w) end)
 unfolding encode
 arm-good why test arms s at v next w passes (found x end) q =
     record { valid = (w .small, passes, q .valid); slice = join (w .slice) (q .slice) }
@@ -121,10 +121,10 @@ arm-good why test arms s at v next w passes (refused y p) q = tt
 
 union-good : (why : Refusal) (test : ℕ → Bool) (arms : ℕ → Form) (s : List ℕ) (at v next : ℕ) → WordSlice s at v next
     → Good (arms v) s next (decode (arms v) s next)
-    → Good (union why test arms) s at (cond (test v) (andThen (decode (arms v) s next) λ w end. found (v, w) end) (refused why at))
+    → Good (discriminated why test arms) s at (cond (test v) (andThen (decode (arms v) s next) λ w end. found (v, w) end) (refused why at))
 union-good why test arms s at v next w more = go (test v) refl
   where
-    go : (b : Bool) → test v ≡ b → Good (union why test arms) s at (cond b (andThen (decode (arms v) s next) λ x end. found (v, x) end) (refused why at))
+    go : (b : Bool) → test v ≡ b → Good (discriminated why test arms) s at (cond b (andThen (decode (arms v) s next) λ x end. found (v, x) end) (refused why at))
     go true e = arm-good why test arms s at v next w (rw e tt) (decode (arms v) s next) more
     go false e = tt
 
@@ -142,8 +142,8 @@ then-good f g s at (found v next) r more = go (decode g s next) (more next (r .s
 pub good : (g : Form) (s : List ℕ) → Octets s → (at : ℕ) → at ≤ length s → Good g s at (decode g s at)
 unfolding decode
 good (fixed ws) s o at h = fixed-good s o ws at h
-good (union why test arms) s o at h =
-    on-word (Good (union why test arms) s at) _ s o at tt
+good (discriminated why test arms) s o at h =
+    on-word (Good (discriminated why test arms) s at) _ s o at tt
     (λ v next w. union-good why test arms s at v next w (good (arms v) s o next (w .slice .high)))
 good (opaque limit) s o at h = on-word (Good (opaque limit) s at) _ s o at tt (λ n next w. opaque-good limit s o at n next w)
 good (list g) s o at h =

@@ -16,7 +16,7 @@ use Rattle.xdr.proofs.Octets.{number-join}
 use Rattle.xdr.proofs.Reading.{WordsRead, word-read, word-cut, word-short, quad-read, quad-short}
 use Rattle.sflow.specs.declared.Refusal.{Refusal}
 use Rattle.sflow.specs.declared.Refusal.the-variants.{CutItem}
-use Rattle.sflow.specs.Grammar.{none, atMost, Form, fixed, union, opaque, list, _then_, Value}
+use Rattle.sflow.specs.Grammar.{unlimited, atMost, Form, fixed, discriminated, opaque, list, _then_, Value}
 use Rattle.sflow.specs.Decode.{Decoded, found, refused, andThen, mapped, wordItem, fixedItems, stringItem, entries, decode}
 
 -- ---- fixed items
@@ -65,17 +65,17 @@ fixed-quad-cut s at p ws e = fixed-stop s at 16 ws (quad-short s at p e)
 
 -- ---- unions
 
-module _ (why : Refusal) (test : ℕ → Bool) (arms : ℕ → Form) (s : List ℕ) (at : ℕ) {A : Type 0} (view : Value (union why test arms) → A) where
-  pub union-cut : (p : ℕ) → wordAt s at ≡ CutWord p → mapped view (decode (union why test arms) s at) ≡ refused CutItem at
+module _ (why : Refusal) (test : ℕ → Bool) (arms : ℕ → Form) (s : List ℕ) (at : ℕ) {A : Type 0} (view : Value (discriminated why test arms) → A) where
+  pub union-cut : (p : ℕ) → wordAt s at ≡ CutWord p → mapped view (decode (discriminated why test arms) s at) ≡ refused CutItem at
   unfolding decode
   union-cut p e = rw (e, word-cut s at p e)
 
-  pub union-bad : (v next : ℕ) → wordAt s at ≡ Word v next → test v ≡ false → mapped view (decode (union why test arms) s at) ≡ refused why at
+  pub union-bad : (v next : ℕ) → wordAt s at ≡ Word v next → test v ≡ false → mapped view (decode (discriminated why test arms) s at) ≡ refused why at
   unfolding decode
   union-bad v next e f = rw (e, f)
 
   pub union-arm : (v next : ℕ) → wordAt s at ≡ Word v next → test v ≡ true
-      → mapped view (decode (union why test arms) s at) ≡ mapped (λ w. view (v, w)) (decode (arms v) s next)
+      → mapped view (decode (discriminated why test arms) s at) ≡ mapped (λ w. view (v, w)) (decode (arms v) s next)
   unfolding decode
   union-arm v next e f = rw (e, f) (go (decode (arms v) s next))
     where
@@ -85,7 +85,7 @@ module _ (why : Refusal) (test : ℕ → Bool) (arms : ℕ → Form) (s : List �
 
 -- a union is a word that passes the test, and its arm
 pub union-is : (why : Refusal) (test : ℕ → Bool) (arms : ℕ → Form) (s : List ℕ) (at : ℕ)
-    → decode (union why test arms) s at
+    → decode (discriminated why test arms) s at
     ≡ andThen (wordItem (wordAt s at)) λ v next.
     cond (test v) (andThen (decode (arms v) s next) λ w end. found (v, w) end) (refused why at)
 unfolding decode
@@ -94,12 +94,12 @@ union-is why test arms s at = refl
 -- ---- strings and lists
 
 pub string-cut : (s : List ℕ) (at : ℕ) {A : Type 0} (view : List ℕ → A) (p : ℕ) → wordAt s at ≡ CutWord p
-    → mapped view (decode (opaque none) s at) ≡ refused CutItem at
+    → mapped view (decode (opaque unlimited) s at) ≡ refused CutItem at
 unfolding decode
 string-cut s at view p e = rw (e, word-cut s at p e)
 
 pub string-word : (s : List ℕ) (at : ℕ) {A : Type 0} (view : List ℕ → A) (n next : ℕ) → wordAt s at ≡ Word n next
-    → mapped view (decode (opaque none) s at) ≡ mapped view (stringItem (take n (drop next s)) (paddedAt s next n))
+    → mapped view (decode (opaque unlimited) s at) ≡ mapped view (stringItem (take n (drop next s)) (paddedAt s next n))
 unfolding decode
 string-word s at view n next e = rw e
 

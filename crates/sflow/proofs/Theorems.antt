@@ -10,7 +10,7 @@ use lib.Seq.{drop-length, take-at, drop-at, drop-append-le, drop-append-seam}
 use lib.Dec.{ltb}
 use borrow.Author.Tests.{ltb-false, le-ltb}
 use Rattle.xdr.specs.Numbers.{Octets, octetsOf}
-use Rattle.xdr.specs.Items.{wordAt, sum}
+use Rattle.xdr.specs.Items.{wordAt, totalWidth}
 use Rattle.xdr.specs.declared.WordRead.the-variants.{Word}
 use Rattle.sflow.specs.declared.Refusal.{Refusal}
 use Rattle.sflow.specs.declared.Refusal.the-variants.{Trailing, TooLong}
@@ -174,6 +174,6 @@ samples-end-to-end s o v e =
     rw at at (end-to-end sample-type s (samples v) (h .2 .1 .1 .1) (4 + length agent + length words + 4) (length s) t)
 
 -- the lengths of the counters' bodies, versions 1 to 7 (document 01, "Datagram grammar")
-pub body-lengths : map (λ version. sum (chosen [] counters-versions version)) (1 ∷ 2 ∷ 3 ∷ 4 ∷ 5 ∷ 6 ∷ 7 ∷ [])
+pub body-lengths : map (λ version. totalWidth (chosen [] counters-versions version)) (1 ∷ 2 ∷ 3 ∷ 4 ∷ 5 ∷ 6 ∷ 7 ∷ [])
     ≡ 88 ∷ 140 ∷ 160 ∷ 88 ∷ 168 ∷ 88 ∷ 28 ∷ []
 body-lengths = refl

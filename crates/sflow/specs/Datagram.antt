@@ -2,7 +2,7 @@
 use Prim.Native.Nat.{ℕ}
 use mathlib.Core.List.{List, [], _∷_, _++_}
 use Rattle.sflow.specs.declared.Refusal.the-variants.{Version, AddressType, SampleType, PacketDataType, HeaderProtocol, HeaderLength, ExtendedDataType, SegmentType, UrlDirection, CountersVersion}
-use Rattle.sflow.specs.Grammar.{none, atMost, Form, fixed, opaque, list, _then_, Value, Arm, case, oneOf, oneOfFixed, constant, enumeration}
+use Rattle.sflow.specs.Grammar.{unlimited, atMost, Form, fixed, opaque, list, _then_, Value, Arm, case, oneOf, oneOfFixed, constant, enumeration}
 
 -- the widths of XDR's unsigned int and unsigned hyper, and of the octets of an address
 abbrev pub int : ℕ
@@ -65,11 +65,11 @@ extended-gateway = fixed (int ∷ int ∷ int ∷ []) then list as-path-type the
 
 -- src_user; dst_user
 abbrev pub extended-user : Form
-extended-user = opaque none then opaque none
+extended-user = opaque unlimited then opaque unlimited
 
 -- direction; url
 abbrev pub extended-url : Form
-extended-url = enumeration UrlDirection 2 (opaque none)
+extended-url = enumeration UrlDirection 2 (opaque unlimited)
 
 abbrev pub extended-data-type : Form
 extended-data-type =

@@ -3,25 +3,24 @@
 use Prim.Native.Nat.{ℕ, zero, suc}
 use mathlib.Core.Path.{_≡_}
 use mathlib.Core.List.{List, [], _∷_, _++_}
+use mathlib.Core.Option.{some}
 use lib.ListN.{take, getD, replicate}
+use Rattle.form_writer.specs.declared.parts.WriteAnswer.{WriteAnswer}
+use Rattle.xdr.specs.Writes.{Afterwards, afterwards}
 use Rattle.sflow.specs.Refusals.{refusalNumber}
-use Rattle.sflow.specs.Grammar.{encode}
-use Rattle.sflow.specs.Decode.{mapped}
-use Rattle.sflow.specs.Datagram.{sample-type}
-use Rattle.sflow.specs.Reading.{readDatagram}
 use Rattle.reader.specs.declared.datagram.Head.{Head}
 use Rattle.reader.specs.declared.datagram.HeadRead.{HeadRead}
 use Rattle.reader.specs.declared.datagram.HeadRead.the-variants.{Found, Refused}
-use Rattle.reader.specs.Datagrams.{datagramOf, asHead}
+use Rattle.reader.specs.Datagrams.{datagramRead}
 use Rattle.form_writer.specs.declared.parts.WriteAnswer.the-variants.{Done, BadLimit, BadDatagram, BadValue, NoRoom}
-use Rattle.form_writer.specs.Parts.{Outcome, outcome, answerNumber}
-use Rattle.sample_writer.specs.CounterValues.{countersAllowed, countersValue}
+use Rattle.form_writer.specs.Parts.{writeNumber}
+use Rattle.sample_writer.specs.CounterValues.{countersValue}
 use Rattle.writer.specs.Datagrams.{started, appended}
 use Rattle.rules.specs.declared.CheckAnswer.{CheckAnswer}
 use Rattle.rules.specs.declared.CheckAnswer.the-variants.{Accepted, Refused as RefusedSet}
-use Rattle.rules.specs.Checks.{refusalNumber as checkNumber, check}
+use Rattle.rules.specs.Checks.{checkNumber as checkNumber, check}
 use Rattle.engine.specs.declared.EngineResult.{EngineResult}
-use Rattle.engine.specs.Results.{answerNumber as engineNumber, ruleNamed, zeroKey, engineOf}
+use Rattle.engine.specs.Results.{engineNumber as engineNumber, ruleNamed, zeroKey, engineOf}
 use Rattle.ledger.specs.declared.FlowEntry.{FlowEntry}
 use Rattle.ledger.specs.declared.Row.{Row}
 use Rattle.ledger.specs.declared.EntryAnswer.the-variants.{Entered}
@@ -36,7 +35,7 @@ use Rattle.theorems.specs.Inputs.{
   ruleRecord,
   subroutine,
   flowSample,
-  flowEntry,
+  sampleEntry,
 }
 
 pub data Case : Type 0 where
@@ -68,19 +67,19 @@ pub record Appended : Type 0 where
   pub buffer : List ℕ
 
 -- behind an answer: the new length, or the refusal with what was there
-abbrev behind : ℕ → Outcome → Appended
-behind size (outcome (Done n) d) = record { number = 0; size = n; buffer = d }
-behind size (outcome BadLimit d) = record { number = answerNumber BadLimit; size = size; buffer = d }
-behind size (outcome BadDatagram d) = record { number = answerNumber BadDatagram; size = size; buffer = d }
-behind size (outcome BadValue d) = record { number = answerNumber BadValue; size = size; buffer = d }
-behind size (outcome NoRoom d) = record { number = answerNumber NoRoom; size = size; buffer = d }
+abbrev behind : ℕ → Afterwards WriteAnswer → Appended
+behind size (afterwards (Done n) d) = record { number = 0; size = n; buffer = d }
+behind size (afterwards BadLimit d) = record { number = writeNumber BadLimit; size = size; buffer = d }
+behind size (afterwards BadDatagram d) = record { number = writeNumber BadDatagram; size = size; buffer = d }
+behind size (afterwards BadValue d) = record { number = writeNumber BadValue; size = size; buffer = d }
+behind size (afterwards NoRoom d) = record { number = writeNumber NoRoom; size = size; buffer = d }
 
 -- a datagram of an IPv4 agent with so many Ethernet counter samples appended, in a buffer of 1,400 octets
 abbrev afterAppends : ℕ → Appended
 afterAppends zero = behind 0 (started 1400 agent 1 1000 (replicate 1400 0))
 afterAppends (suc n) =
     behind (afterAppends n .size)
-    (appended (countersAllowed 2 ethernetCounters) (encode sample-type (countersValue 5 16777316 20 2 ethernetCounters)) 1400 (afterAppends n .size) (afterAppends n .buffer))
+    (appended (some (countersValue 5 16777316 20 2 ethernetCounters)) 1400 (afterAppends n .size) (afterAppends n .buffer))
 
 -- ---- 12 to 16: check and engine
 
@@ -107,8 +106,8 @@ rowAfter x y = getD (second x y .rows) 0 freeRow
 -- ---- the table
 
 abbrev pub Holds : Case → Type 0
-Holds (refuses s number place) = Refuses (asHead (mapped datagramOf (readDatagram s))) number place
-Holds (accepts s h) = asHead (mapped datagramOf (readDatagram s)) ≡ Found h
+Holds (refuses s number place) = Refuses (datagramRead s) number place
+Holds (accepts s h) = datagramRead s ≡ Found h
 Holds (appends n number size) = (afterAppends n .number ≡ number) × (afterAppends n .size ≡ size)
 Holds (runs s number rules) = (check s ≡ Accepted) × Gives (engineOf s flowSample) number 0 rules
 Holds (breaks s number rule) = Breaks (check s) number rule × Gives (engineOf s flowSample) number rule 0
@@ -150,5 +149,5 @@ cases =
     -- 16: with Return 3
     ∷ breaks (subroutine 3) 37 3
     -- 17: sequences 7, 9, pools 4294967290, 10
-    ∷ enters (flowEntry 7 4294967290) (flowEntry 9 10) 16 1
+    ∷ enters (sampleEntry 7 4294967290) (sampleEntry 9 10) 16 1
     ∷ []

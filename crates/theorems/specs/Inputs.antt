@@ -8,14 +8,14 @@ use Rattle.ledger.specs.declared.FlowEntry.{FlowEntry}
 -- ---- datagrams
 
 -- agent 10.0.0.7, sequence 1, uptime 1000
-abbrev pub head : List ℕ
-head = 0 ∷ 0 ∷ 0 ∷ 4 ∷ 0 ∷ 0 ∷ 0 ∷ 1 ∷ 10 ∷ 0 ∷ 0 ∷ 7 ∷ 0 ∷ 0 ∷ 0 ∷ 1 ∷ 0 ∷ 0 ∷ 3 ∷ 232 ∷ []
+abbrev pub headOctets : List ℕ
+headOctets = 0 ∷ 0 ∷ 0 ∷ 4 ∷ 0 ∷ 0 ∷ 0 ∷ 1 ∷ 10 ∷ 0 ∷ 0 ∷ 7 ∷ 0 ∷ 0 ∷ 0 ∷ 1 ∷ 0 ∷ 0 ∷ 3 ∷ 232 ∷ []
 
 abbrev pub noSamples : List ℕ
-noSamples = head ++ (0 ∷ 0 ∷ 0 ∷ 0 ∷ [])
+noSamples = headOctets ++ (0 ∷ 0 ∷ 0 ∷ 0 ∷ [])
 
 abbrev pub oneSample : List ℕ
-oneSample = head ++ (0 ∷ 0 ∷ 0 ∷ 1 ∷ [])
+oneSample = headOctets ++ (0 ∷ 0 ∷ 0 ∷ 1 ∷ [])
 
 -- a counter sample of a version: sequence 5, source 01000064, interval 20, vlan 100, the rest 0
 abbrev pub counterSample : ℕ → List ℕ
@@ -48,8 +48,8 @@ flowSample = 0 ∷ 0 ∷ 0 ∷ 1 ∷ (replicate 28 0 ++ (0 ∷ 0 ∷ 0 ∷ 2 ∷
 -- ---- the ledger
 
 -- a flow sample of source 01000064 and agent 10.0.0.7, with a sequence number and a sample pool
-abbrev pub flowEntry : ℕ → ℕ → FlowEntry
-flowEntry sequence pool =
+abbrev pub sampleEntry : ℕ → ℕ → FlowEntry
+sampleEntry sequence pool =
     record {
       agent = agent;
       words =

@@ -1,3 +1,4 @@
 pub mod Inputs
 pub mod Cases
+pub mod Numbers
 pub mod Demands

@@ -9,7 +9,7 @@ use lib.Dec.{leb}
 use borrow.Rule.Slice.PartMut.{putMid, midOf, mid-len, put-same}
 use borrow.Author.Tests.{le-leb, lt-leb, leb-true, leb-false}
 use Rattle.xdr.specs.Numbers.{Octets, octetsOf}
-use Rattle.xdr.specs.Writes.{stored, writeAt, wrote}
+use Rattle.xdr.specs.Writes.{stored, writeAt, afterwards, Afterwards}
 use Rattle.xdr.specs.declared.Written.{Written}
 use Rattle.xdr.proofs.Octets.{octets-length}
 use Rattle.xdr.proofs.Writing.{stored-part, stored-length, wrote-fits}
@@ -22,9 +22,9 @@ use Rattle.sflow.proofs.Items.{each-length}
 use Rattle.sflow.proofs.Theorems.{accepted-to-end, accepted-exactly}
 use Rattle.form_writer.specs.declared.parts.WriteAnswer.{WriteAnswer}
 use Rattle.form_writer.specs.declared.parts.WriteAnswer.the-variants.{Done, BadLimit, BadDatagram, BadValue, NoRoom}
-use Rattle.form_writer.specs.Parts.{Outcome, outcome, writeAlone, writeValue}
+use Rattle.form_writer.specs.Parts.{writeAlone, writeValue}
 use Rattle.writer.specs.declared.Checked.the-variants.{Ready, NotReady}
-use Rattle.writer.specs.Datagrams.{limitAllowed, countAt, readySoFar, checkedAt, raised, appendTo, appended, counted, Fitting}
+use Rattle.writer.specs.Datagrams.{limitAllowed, countAt, readySoFar, checkedAt, raised, appendedWhen, appendedOctets, counted, Fitting}
 use Rattle.writer.proofs.Limits.{limit-allowed}
 
 -- ---- the count word lies within the datagram so far
@@ -47,7 +47,7 @@ count-inside s o v end e =
     let h = head-inside v (r .1) in
     omega arith
 
--- what a datagram says to which a sample can be appended
+-- what a datagram says to which a sample can be appendedOctets
 pub record SoFar (limit size at : ℕ) (d : List ℕ) : Type 0 where
   pub inside : limit ≤ length d
   pub small : size ≤ limit
@@ -80,8 +80,8 @@ so-far limit size at count d o e = allowed (limitAllowed limit (length d)) refl 
 -- ---- the count raised, by the answer of a sample's writer
 
 module _ (at count size : ℕ) (answer : WriteAnswer) (d : List ℕ) where
-  pub counted-done : (n : ℕ) (w : Written) (e : List ℕ) → answer ≡ Done n → Fitting at size answer d → wrote w e ≡ writeAt d at (octetsOf 4 count)
-      → outcome (Done (size + n)) e ≡ counted at count size answer d
+  pub counted-done : (n : ℕ) (w : Written) (e : List ℕ) → answer ≡ Done n → Fitting at size answer d → afterwards w e ≡ writeAt d at (octetsOf 4 count)
+      → afterwards (Done (size + n)) e ≡ counted at count size answer d
   unfolding counted
   counted-done n w e a f g =
       let l : length (octetsOf 4 count) ≡ 4 = octets-length 4 count in
@@ -89,19 +89,19 @@ module _ (at count size : ℕ) (answer : WriteAnswer) (d : List ℕ) where
       let r = wrote-fits d at (octetsOf 4 count) w e g (omega arith) in
       rw (a, r .octets-are)
 
-  pub counted-limit : answer ≡ BadLimit → outcome BadLimit d ≡ counted at count size answer d
+  pub counted-limit : answer ≡ BadLimit → afterwards BadLimit d ≡ counted at count size answer d
   unfolding counted
   counted-limit a = rw a
 
-  pub counted-datagram : answer ≡ BadDatagram → outcome BadDatagram d ≡ counted at count size answer d
+  pub counted-datagram : answer ≡ BadDatagram → afterwards BadDatagram d ≡ counted at count size answer d
   unfolding counted
   counted-datagram a = rw a
 
-  pub counted-value : answer ≡ BadValue → outcome BadValue d ≡ counted at count size answer d
+  pub counted-value : answer ≡ BadValue → afterwards BadValue d ≡ counted at count size answer d
   unfolding counted
   counted-value a = rw a
 
-  pub counted-room : answer ≡ NoRoom → outcome NoRoom d ≡ counted at count size answer d
+  pub counted-room : answer ≡ NoRoom → afterwards NoRoom d ≡ counted at count size answer d
   unfolding counted
   counted-room a = rw a
 
@@ -117,7 +117,7 @@ module _ (limit size at : ℕ) (d : List ℕ) (known : SoFar limit size at d) (a
   room-long : length (midOf size (limit - size) d) ≡ limit - size
   room-long = mid-len size limit d (known .inside)
 
-  room-written : outcome answer e ≡ writeValue allowed xs (midOf size (limit - size) d)
+  room-written : afterwards answer e ≡ writeValue allowed xs (midOf size (limit - size) d)
       → RoomWritten limit size d allowed xs answer (putMid size (limit - size) d e)
   unfolding writeAlone
   room-written q = value allowed refl q
@@ -126,7 +126,7 @@ module _ (limit size at : ℕ) (d : List ℕ) (known : SoFar limit size at d) (a
       whole s = rw s (put-same size (limit - size) d)
 
       room : (b : Bool) → leb (length xs) (length (midOf size (limit - size) d)) ≡ b → allowed ≡ true
-          → outcome answer e ≡ cond b (outcome (Done (length xs)) (stored (midOf size (limit - size) d) 0 xs)) (outcome NoRoom (midOf size (limit - size) d))
+          → afterwards answer e ≡ cond b (afterwards (Done (length xs)) (stored (midOf size (limit - size) d) 0 xs)) (afterwards NoRoom (midOf size (limit - size) d))
           → RoomWritten limit size d allowed xs answer (putMid size (limit - size) d e)
       room true f a g =
           let h : length xs ≤ length (midOf size (limit - size) d) = leb-true _ _ f in
@@ -144,7 +144,7 @@ module _ (limit size at : ℕ) (d : List ℕ) (known : SoFar limit size at d) (a
           let s : e ≡ midOf size (limit - size) d = cc in
           no-room a (omega arith) b (whole s)
 
-      value : (b : Bool) → allowed ≡ b → outcome answer e ≡ cond b (writeAlone xs (midOf size (limit - size) d)) (outcome BadValue (midOf size (limit - size) d))
+      value : (b : Bool) → allowed ≡ b → afterwards answer e ≡ cond b (writeAlone xs (midOf size (limit - size) d)) (afterwards BadValue (midOf size (limit - size) d))
           → RoomWritten limit size d allowed xs answer (putMid size (limit - size) d e)
       value true f g = room (leb (length xs) (length (midOf size (limit - size) d))) refl f g
       value false f g =
@@ -153,7 +153,7 @@ module _ (limit size at : ℕ) (d : List ℕ) (known : SoFar limit size at d) (a
           not-allowed f b (whole s)
 
   -- the count word and the new end lie in the buffer
-  pub room-fitting : outcome answer e ≡ writeValue allowed xs (midOf size (limit - size) d) → Fitting at size answer (putMid size (limit - size) d e)
+  pub room-fitting : afterwards answer e ≡ writeValue allowed xs (midOf size (limit - size) d) → Fitting at size answer (putMid size (limit - size) d e)
   room-fitting q = go (putMid size (limit - size) d e) (room-written q)
     where
       few : limit ≤ length d
@@ -174,19 +174,19 @@ module _ (limit size at : ℕ) (d : List ℕ) (known : SoFar limit size at d) (a
           let l : length (stored d size xs) ≡ length d = stored-length d size xs (omega arith) in
           record { word = rw (s, l) (omega arith); end = λ n g. let m : length xs ≡ n = cc in rw (s, l) (omega arith) }
 
-  -- the sample appended
-  pub room-appended : (count : ℕ) (r : Outcome) → Ready at count ≡ checkedAt limit size d → outcome answer e ≡ writeValue allowed xs (midOf size (limit - size) d)
-      → r ≡ counted at count size answer (putMid size (limit - size) d e) → r ≡ appended allowed xs limit size d
-  unfolding appended counted
+  -- the sample appendedOctets
+  pub room-appended : (count : ℕ) (r : Afterwards WriteAnswer) → Ready at count ≡ checkedAt limit size d → afterwards answer e ≡ writeValue allowed xs (midOf size (limit - size) d)
+      → r ≡ counted at count size answer (putMid size (limit - size) d e) → r ≡ appendedOctets allowed xs limit size d
+  unfolding appendedOctets counted
   room-appended count r c q p = go (putMid size (limit - size) d e) p (room-written q)
     where
-      go : (f : List ℕ) → r ≡ counted at count size answer f → RoomWritten limit size d allowed xs answer f → r ≡ appendTo allowed xs limit size d (checkedAt limit size d)
+      go : (f : List ℕ) → r ≡ counted at count size answer f → RoomWritten limit size d allowed xs answer f → r ≡ appendedWhen allowed xs limit size d (checkedAt limit size d)
       go f g (not-allowed a b s) = rw (g, ← c, a, b, s)
       go f g (no-room a h b s) = rw (g, ← c, a, b, s, lt-leb _ _ h)
       go f g (written a h b s) = rw (g, ← c, a, b, s, le-leb _ _ h)
 
--- nothing is appended
+-- nothing is appendedOctets
 pub not-appended : (allowed : Bool) (xs : List ℕ) (limit size : ℕ) (d : List ℕ) (why : WriteAnswer) → NotReady why ≡ checkedAt limit size d
-    → outcome why d ≡ appended allowed xs limit size d
-unfolding appended
+    → afterwards why d ≡ appendedOctets allowed xs limit size d
+unfolding appendedOctets
 not-appended allowed xs limit size d why e = rw (← e)

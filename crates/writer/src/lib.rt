@@ -2,16 +2,20 @@
 // leaves every octet of the buffer as it was; octets behind the new end stay.
 use fields::address::Address;
 use form_writer::parts::WriteAnswer;
+use packet_data::SampledIpv4;
+use packet_data::SampledIpv6;
 use reader::datagram::HeadRead;
 use reader::sample::FlowWords;
 ghost use mathlib.Core.Path.{_≡_};
+ghost use mathlib.Core.Option.{some};
 ghost use lib.ListN.{length};
 ghost use Prim.Native.Nat.{_+_};
-ghost use Rattle.sflow.specs.Datagram.{sample-type};
-ghost use Rattle.form_writer.specs.Parts.{outcome};
-ghost use Rattle.sample_writer.specs.FlowValues.{isOne, flowAllowed, flowOctets};
-ghost use Rattle.sflow.specs.Grammar.{encode};
-ghost use Rattle.sample_writer.specs.CounterValues.{countersAllowed, countersValue};
+ghost use Rattle.xdr.specs.Writes.{afterwards};
+ghost use Rattle.sflow.specs.Decode.{valueIn, entriesIn};
+ghost use Rattle.sflow.specs.Datagram.{extended-data-type, sample-type};
+ghost use Rattle.form_writer.specs.Values.{headerValue, ipv4Value, ipv6Value};
+ghost use Rattle.sample_writer.specs.FlowValues.{flowGiven};
+ghost use Rattle.sample_writer.specs.CounterValues.{countersValue};
 ghost use Rattle.writer.specs.Datagrams.{limitAllowed, started, checkedAt, Fitting, counted, appended};
 
 // Whether a limit is one that a datagram can have and the buffer holds.
@@ -35,7 +39,7 @@ pub fn start(
     sequence_number: u32,
     uptime: u32,
 ) -> WriteAnswer
-    ensures { λ r. ⌜ outcome r (now (d .exit)) ≡ started limit agent «sequence_number» uptime (now (d .entry)) ⌝ }
+    ensures { λ r. ⌜ afterwards r (now (d .exit)) ≡ started limit agent «sequence_number» uptime (now (d .entry)) ⌝ }
 {
     if limit_allowed(limit, d.len()) {
         let q = agent.octets;
@@ -86,7 +90,7 @@ fn raise_count(
     answer: WriteAnswer,
 ) -> WriteAnswer
     requires { ⌜ Fitting at length answer (now d) ⌝ }
-    ensures { λ r. ⌜ outcome r (now (d .exit)) ≡ counted at count length answer (now (d .entry)) ⌝ }
+    ensures { λ r. ⌜ afterwards r (now (d .exit)) ≡ counted at count length answer (now (d .entry)) ⌝ }
 {
     match answer {
         WriteAnswer::Done(n) => {
@@ -102,7 +106,7 @@ fn raise_count(
 
 // A sample more, given as octets.
 pub fn append_octets(d: &mut [u8], limit: usize, length: usize, sample: &[u8]) -> WriteAnswer
-    ensures { λ r. ⌜ outcome r (now (d .exit)) ≡ appended (isOne sample-type (now (sample .entry))) (now (sample .entry)) limit length (now (d .entry)) ⌝ }
+    ensures { λ r. ⌜ afterwards r (now (d .exit)) ≡ appended (valueIn sample-type (now (sample .entry))) limit length (now (d .entry)) ⌝ }
 {
     match check_so_far(d, limit, length) {
         Checked::NotReady(why) => why,
@@ -113,23 +117,84 @@ pub fn append_octets(d: &mut [u8], limit: usize, length: usize, sample: &[u8]) -
     }
 }
 
-// A flow sample more: its words, packet data as octets that their writer wrote, and so many extended entries as octets that their writers wrote.
-pub fn append_flow(
+// A flow sample with a sampled header more: its words, the header's protocol, the frame's length and the header's octets, and so many extended entries as
+// octets that their writers wrote.
+pub fn append_header(
     d: &mut [u8],
     limit: usize,
     length: usize,
     words: FlowWords,
-    packet: &[u8],
+    protocol: u32,
+    frame_length: u32,
+    header: &[u8],
     count: u32,
     extended: &[u8],
 ) -> WriteAnswer
-    ensures { λ r. ⌜ outcome r (now (d .exit))
-        ≡ appended (flowAllowed (now (packet .entry)) count (now (extended .entry))) (flowOctets words (now (packet .entry)) count (now (extended .entry))) limit length (now (d .entry)) ⌝ }
+    ensures { λ r. ⌜ afterwards r (now (d .exit))
+        ≡ appended (flowGiven words (some (headerValue protocol «frame_length» (now (header .entry)))) (entriesIn extended-data-type count (now (extended .entry)))) limit length (now (d .entry)) ⌝ }
 {
     match check_so_far(d, limit, length) {
         Checked::NotReady(why) => why,
         Checked::Ready(at, samples) => {
-            let answer = sample_writer::sample::write_flow(
+            let answer = sample_writer::sample::write_header_flow(
+                &mut d[length..limit],
+                words,
+                protocol,
+                frame_length,
+                header,
+                count,
+                extended,
+            );
+            raise_count(d, at, samples, length, answer)
+        }
+    }
+}
+
+// A flow sample with IPv4 data more, and so many extended entries as octets that their writers wrote.
+pub fn append_ipv4(
+    d: &mut [u8],
+    limit: usize,
+    length: usize,
+    words: FlowWords,
+    packet: SampledIpv4,
+    count: u32,
+    extended: &[u8],
+) -> WriteAnswer
+    ensures { λ r. ⌜ afterwards r (now (d .exit))
+        ≡ appended (flowGiven words (some (ipv4Value packet)) (entriesIn extended-data-type count (now (extended .entry)))) limit length (now (d .entry)) ⌝ }
+{
+    match check_so_far(d, limit, length) {
+        Checked::NotReady(why) => why,
+        Checked::Ready(at, samples) => {
+            let answer = sample_writer::sample::write_ipv4_flow(
+                &mut d[length..limit],
+                words,
+                packet,
+                count,
+                extended,
+            );
+            raise_count(d, at, samples, length, answer)
+        }
+    }
+}
+
+// A flow sample with IPv6 data more, and so many extended entries as octets that their writers wrote.
+pub fn append_ipv6(
+    d: &mut [u8],
+    limit: usize,
+    length: usize,
+    words: FlowWords,
+    packet: SampledIpv6,
+    count: u32,
+    extended: &[u8],
+) -> WriteAnswer
+    ensures { λ r. ⌜ afterwards r (now (d .exit))
+        ≡ appended (flowGiven words (some (ipv6Value packet)) (entriesIn extended-data-type count (now (extended .entry)))) limit length (now (d .entry)) ⌝ }
+{
+    match check_so_far(d, limit, length) {
+        Checked::NotReady(why) => why,
+        Checked::Ready(at, samples) => {
+            let answer = sample_writer::sample::write_ipv6_flow(
                 &mut d[length..limit],
                 words,
                 packet,
@@ -152,8 +217,8 @@ pub fn append_counters(
     version: u32,
     numbers: &[u64],
 ) -> WriteAnswer
-    ensures { λ r. ⌜ outcome r (now (d .exit))
-        ≡ appended (countersAllowed version (now (numbers .entry))) (encode sample-type (countersValue «sequence_number» «source_id» «sampling_interval» version (now (numbers .entry)))) limit length (now (d .entry)) ⌝ }
+    ensures { λ r. ⌜ afterwards r (now (d .exit))
+        ≡ appended (some (countersValue «sequence_number» «source_id» «sampling_interval» version (now (numbers .entry)))) limit length (now (d .entry)) ⌝ }
 {
     match check_so_far(d, limit, length) {
         Checked::NotReady(why) => why,

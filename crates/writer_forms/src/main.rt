@@ -184,7 +184,7 @@ fn segment(d: &mut [u8]) {
 
 fn gateway(d: &mut [u8]) {
     let path = b"\0\0\0\x02\0\0\0\x02\0\0\0\x07\0\0\0\x08\0\0\0\x01\0\0\0\0";
-    let answer = form_writer::extended::write_gateway(d, [1, 2, 3], 2, path, &[9], 100);
+    let answer = form_writer::extended::write_gateway(d, 1, 2, 3, 2, path, &[9], 100);
     let passed = extended_data::pass_extended(d, 0, 1);
     report(
         b"gateway",
@@ -195,8 +195,9 @@ fn gateway(d: &mut [u8]) {
     );
 }
 
-fn flow_sample(d: &mut [u8]) {
-    let words = FlowWords {
+// The words of the flow samples below.
+fn flow_words() -> FlowWords {
+    FlowWords {
         sequence_number: 1,
         source_id: 2,
         sampling_rate: 3,
@@ -204,7 +205,11 @@ fn flow_sample(d: &mut [u8]) {
         drops: 5,
         input: 6,
         output: 7,
-    };
+    }
+}
+
+fn flow_sample(d: &mut [u8]) {
+    let words = flow_words();
     let header = b"\0\0\0\x01\0\0\0\x01\0\0\0\x40\0\0\0\x01\xff\0\0\0";
     let entries =
         b"\0\0\0\x05\0\0\0\x02\0\0\0\x02/a\0\0\0\0\0\x01\0\0\0\x01\0\0\0\x02\0\0\0\x03\0\0\0\x04";
@@ -216,6 +221,77 @@ fn flow_sample(d: &mut [u8]) {
         answer,
         passed,
         b"\0\0\0\x01\0\0\0\x01\0\0\0\x02\0\0\0\x03\0\0\0\x04\0\0\0\x05\0\0\0\x06\0\0\0\x07\0\0\0\x01\0\0\0\x01\0\0\0\x40\0\0\0\x01\xff\0\0\0\0\0\0\x02\0\0\0\x05\0\0\0\x02\0\0\0\x02/a\0\0\0\0\0\x01\0\0\0\x01\0\0\0\x02\0\0\0\x03\0\0\0\x04",
+    );
+}
+
+fn header_flow(d: &mut [u8]) {
+    let words = flow_words();
+    let entries =
+        b"\0\0\0\x05\0\0\0\x02\0\0\0\x02/a\0\0\0\0\0\x01\0\0\0\x01\0\0\0\x02\0\0\0\x03\0\0\0\x04";
+    let answer = sample_writer::sample::write_header_flow(d, words, 1, 64, b"\xff", 2, entries);
+    let passed = reader::sample::pass_sample(d, 0);
+    report(
+        b"flow sample with a header",
+        d,
+        answer,
+        passed,
+        b"\0\0\0\x01\0\0\0\x01\0\0\0\x02\0\0\0\x03\0\0\0\x04\0\0\0\x05\0\0\0\x06\0\0\0\x07\0\0\0\x01\0\0\0\x01\0\0\0\x40\0\0\0\x01\xff\0\0\0\0\0\0\x02\0\0\0\x05\0\0\0\x02\0\0\0\x02/a\0\0\0\0\0\x01\0\0\0\x01\0\0\0\x02\0\0\0\x03\0\0\0\x04",
+    );
+}
+
+fn ipv4_flow(d: &mut [u8]) {
+    let words = flow_words();
+    let x = SampledIpv4 {
+        length: 9,
+        protocol: 10,
+        src_ip: 11,
+        dst_ip: 12,
+        src_port: 13,
+        dst_port: 14,
+        tcp_flags: 15,
+        tos: 16,
+    };
+    let answer = sample_writer::sample::write_ipv4_flow(d, words, x, 0, b"");
+    let passed = reader::sample::pass_sample(d, 0);
+    report(
+        b"flow sample with IPv4 data",
+        d,
+        answer,
+        passed,
+        b"\0\0\0\x01\0\0\0\x01\0\0\0\x02\0\0\0\x03\0\0\0\x04\0\0\0\x05\0\0\0\x06\0\0\0\x07\0\0\0\x02\0\0\0\x09\0\0\0\x0a\0\0\0\x0b\0\0\0\x0c\0\0\0\x0d\0\0\0\x0e\0\0\0\x0f\0\0\0\x10\0\0\0\x00",
+    );
+}
+
+fn ipv6_flow(d: &mut [u8]) {
+    let words = flow_words();
+    let x = SampledIpv6 {
+        length: 9,
+        protocol: 10,
+        src_ip: Quad {
+            a: 11,
+            b: 12,
+            c: 13,
+            d: 14,
+        },
+        dst_ip: Quad {
+            a: 15,
+            b: 16,
+            c: 17,
+            d: 18,
+        },
+        src_port: 19,
+        dst_port: 20,
+        tcp_flags: 21,
+        priority: 22,
+    };
+    let answer = sample_writer::sample::write_ipv6_flow(d, words, x, 0, b"");
+    let passed = reader::sample::pass_sample(d, 0);
+    report(
+        b"flow sample with IPv6 data",
+        d,
+        answer,
+        passed,
+        b"\0\0\0\x01\0\0\0\x01\0\0\0\x02\0\0\0\x03\0\0\0\x04\0\0\0\x05\0\0\0\x06\0\0\0\x07\0\0\0\x03\0\0\0\x09\0\0\0\x0a\0\0\0\x0b\0\0\0\x0c\0\0\0\x0d\0\0\0\x0e\0\0\0\x0f\0\0\0\x10\0\0\0\x11\0\0\0\x12\0\0\0\x13\0\0\0\x14\0\0\0\x15\0\0\0\x16\0\0\0\x00",
     );
 }
 
@@ -244,5 +320,8 @@ fn main() {
     segment(&mut d);
     gateway(&mut d);
     flow_sample(&mut d);
+    header_flow(&mut d);
+    ipv4_flow(&mut d);
+    ipv6_flow(&mut d);
     counter_sample(&mut d);
 }

@@ -1,9 +1,10 @@
 // Reads datagrams from standard input, each behind its length in four octets, and writes each accepted one again, twice into a cleared buffer: its
 // head, then its samples one by one at the end, first as octets and then as values. Prints how many were accepted, how many of these came out with the
 // same octets both times, and how many did not. The datagrams come from the second program in conformance/.
-use counter_data::CounterAnswer;
 use fields::words::Entries;
 use form_writer::parts::WriteAnswer;
+use packet_data::PacketData;
+use packet_data::SampledHeader;
 use reader::datagram::Head;
 use reader::datagram::HeadRead;
 use reader::sample::CountersSample;
@@ -34,28 +35,57 @@ fn written(answer: WriteAnswer) -> usize {
     }
 }
 
-// Appends a flow sample that begins and ends at two places of a datagram: its words as values, its packet data and its extended entries as octets.
-fn append_flow(
+// Appends a flow sample of a datagram with a sampled header, and its extended entries as octets.
+fn append_header(
     out: &mut [u8],
     length: usize,
     s: &[u8],
-    at: usize,
-    end: usize,
     flow: FlowSample,
+    h: SampledHeader,
+    entries: &[u8],
 ) -> usize {
-    let list = flow.extended_data;
-    let first = list.at;
-    if first < at {
-        return usize::MAX;
-    }
-    if first - at < 36 {
-        return usize::MAX;
-    }
     let words = flow.words;
-    let packet = vector_io::part(s, at + 32, first - 4);
-    let entries = vector_io::part(s, first, end);
-    let answer = writer::append_flow(out, 65507, length, words, packet, list.count, entries);
+    let list = flow.extended_data;
+    let text = h.header;
+    let n = text.length as usize;
+    if s.len() < text.at {
+        return usize::MAX;
+    }
+    if s.len() - text.at < n {
+        return usize::MAX;
+    }
+    let header = vector_io::part(s, text.at, text.at + n);
+    let answer = writer::append_header(
+        out,
+        65507,
+        length,
+        words,
+        h.protocol,
+        h.frame_length,
+        header,
+        list.count,
+        entries,
+    );
     written(answer)
+}
+
+// Appends a flow sample that ends at a place of a datagram: its words and its packet data as values, its extended entries as octets.
+fn append_flow(out: &mut [u8], length: usize, s: &[u8], end: usize, flow: FlowSample) -> usize {
+    let words = flow.words;
+    let list = flow.extended_data;
+    let entries = vector_io::part(s, list.at, end);
+    let packet = flow.packet_data;
+    match packet {
+        PacketData::Header(h) => append_header(out, length, s, flow, h, entries),
+        PacketData::Ipv4(x) => {
+            let answer = writer::append_ipv4(out, 65507, length, words, x, list.count, entries);
+            written(answer)
+        }
+        PacketData::Ipv6(x) => {
+            let answer = writer::append_ipv6(out, 65507, length, words, x, list.count, entries);
+            written(answer)
+        }
+    }
 }
 
 // Appends a counter sample: its words, its version and the first numbers of a list, so many as the version has.
@@ -84,6 +114,13 @@ fn append_numbers(
     written(answer)
 }
 
+// An array for the counters of a body: how many they are, then the counters.
+fn no_values() -> [u64; 38]
+    ensures { λ r. ⌜ 38 ≡ length r ⌝ }
+{
+    [0; 38]
+}
+
 // Appends a counter sample of a datagram: all of it as values.
 fn append_counters(out: &mut [u8], length: usize, s: &[u8], c: CountersSample) -> usize {
     let body = c.counters;
@@ -91,20 +128,17 @@ fn append_counters(out: &mut [u8], length: usize, s: &[u8], c: CountersSample) -
     if at < 4 {
         return usize::MAX;
     }
-    let values = counter_data::read_counter_values(s, at - 4);
-    let answer = values.answer;
-    let CounterAnswer::Found(found, _) = answer else {
-        return usize::MAX;
-    };
-    let numbers = values.numbers;
-    append_numbers(out, length, c, found.version, found.count, &numbers)
+    let mut values = no_values();
+    counter_calls::fill_values(s, at - 4, &mut values);
+    let count = values[0] as usize;
+    append_numbers(out, length, c, body.version, count, &values[1..])
 }
 
 // Appends a sample as values and answers the new length.
 fn append_values(out: &mut [u8], length: usize, s: &[u8], x: Sample, end: usize) -> usize {
     let values = x.values;
     match values {
-        SampleValues::Flow(flow) => append_flow(out, length, s, x.offset, end, flow),
+        SampleValues::Flow(flow) => append_flow(out, length, s, end, flow),
         SampleValues::Counters(c) => append_counters(out, length, s, c),
     }
 }

@@ -3,16 +3,15 @@ use Prim.Native.Nat.{ℕ, suc, _+_, _≤_, _<_}
 use native.Mathlib.Nat.{add-zero, add-assoc}
 use native.Mathlib.Numerals.{add-one}
 use native.Mathlib.Omega.{arith}
-use mathlib.Core.Path.{_≡_, refl, sym, _∙_}
-use mathlib.Core.Logic.{⊎-elim}
+use mathlib.Core.Path.{_≡_, _∙_}
 use mathlib.Core.List.{List, [], _∷_}
 use lib.ListN.{length, getD, drop, drop-of-length-le}
 use lib.Seq.{drop-cons}
 use borrow.Author.Tests.{le-leb, lt-leb}
-use Rattle.xdr.specs.Items.{itemsAt, runAt, sum}
+use Rattle.xdr.specs.Items.{itemsAt, totalWidth}
 use Rattle.xdr.specs.declared.RunRead.{RunRead}
 use Rattle.xdr.specs.declared.RunRead.the-variants.{Run, CutRun}
-use Rattle.xdr.proofs.Reading.{never, tested, tested-yes}
+use Rattle.xdr.proofs.Reading.{never, tested-yes}
 
 -- Where the first item is there, the rest is read behind it.
 pub item-there : (s : List ℕ) (at w : ℕ) (ws : List ℕ) → at + w ≤ length s → itemsAt s at (w ∷ ws) ≡ itemsAt s (at + w) ws
@@ -38,36 +37,17 @@ pub items-stop : (s : List ℕ) (at i : ℕ) (ws : List ℕ) → i < length ws �
 items-stop s at i ws h r = rw (drop-cons ws i 0 h) (item-missing s at (getD ws i 0) (drop (suc i) ws) r)
 
 -- Items that are all there are read.
-pub items-whole : (s : List ℕ) (at : ℕ) (ws : List ℕ) → at + sum ws ≤ length s → itemsAt s at ws ≡ Run (at + sum ws)
+pub items-whole : (s : List ℕ) (at : ℕ) (ws : List ℕ) → at + totalWidth ws ≤ length s → itemsAt s at ws ≡ Run (at + totalWidth ws)
 unfolding itemsAt
 items-whole s at [] h = rw (add-zero at)
 items-whole s at (w ∷ ws) h =
     let r : at + w ≤ length s = omega arith in
-    let m : at + w + sum ws ≤ length s = omega arith in
-    rw (← add-assoc at w (sum ws)) (item-there s at w ws r ∙ items-whole s (at + w) ws m)
-
--- A run with so many octets as total says there is passed at once.
-pub run-whole : (s : List ℕ) (at total : ℕ) (ws : List ℕ) → at + total ≤ length s → runAt s at total ws ≡ Run (at + total)
-unfolding runAt
-run-whole s at total ws h = rw (le-leb _ _ h)
-
--- A run with fewer octets there is read item by item.
-pub run-short : (s : List ℕ) (at total : ℕ) (ws : List ℕ) → length s < at + total → runAt s at total ws ≡ itemsAt s at ws
-unfolding runAt
-run-short s at total ws h = rw (lt-leb _ _ h)
-
--- A run with the total of its widths is read as item by item.
-pub run-items : (s : List ℕ) (at total : ℕ) (ws : List ℕ) → total ≡ sum ws → runAt s at total ws ≡ itemsAt s at ws
-unfolding runAt
-run-items s at total ws e =
-    ⊎-elim
-    (λ h. sym (h .1) ∙ (let r : at + sum ws ≤ length s = omega arith in rw e (sym (items-whole s at ws r))))
-    (λ h. sym (h .1))
-    (tested (at + total) (length s) _ _ _ refl)
+    let m : at + w + totalWidth ws ≤ length s = omega arith in
+    rw (← add-assoc at w (totalWidth ws)) (item-there s at w ws r ∙ items-whole s (at + w) ws m)
 
 -- Items that were read: the next offset is behind them, and is within the octets if the first was.
 pub record ItemsRead (s : List ℕ) (at : ℕ) (ws : List ℕ) (next : ℕ) : Type 0 where
-  pub next-is : next ≡ at + sum ws
+  pub next-is : next ≡ at + totalWidth ws
   pub within : at ≤ length s → next ≤ length s
 
 -- What items that were read say.
@@ -77,6 +57,6 @@ items-read s at [] next e = let q : at ≡ next = cc in record { next-is = omega
 items-read s at (w ∷ ws) next e =
     let h = tested-yes (at + w) (length s) _ _ _ (λ q. never (cc)) e in
     let r = items-read s (at + w) ws next (h .1) in
-    let n : next ≡ at + w + sum ws = r .next-is in
+    let n : next ≡ at + w + totalWidth ws = r .next-is in
     let k : next ≤ length s = r .within (h .0) in
     record { next-is = omega arith; within = λ _. k }

@@ -12,7 +12,7 @@ use borrow.Rule.Slice.PartMut.{putMid, midOf}
 use borrow.Author.Tests.{le-leb, lt-leb}
 use Rattle.xdr.specs.Numbers.{octetsOf}
 use Rattle.xdr.specs.Items.{padded}
-use Rattle.xdr.specs.Writes.{stored, writeAt, wrote, paddedOctets}
+use Rattle.xdr.specs.Writes.{stored, writeAt, afterwards, paddedOctets}
 use Rattle.xdr.specs.declared.Written.{Written}
 use Rattle.xdr.specs.declared.Written.the-variants.{WrittenTo, Full}
 use Rattle.xdr.proofs.Octets.{octets-length, octets-join, octets-low, word-octets}
@@ -85,21 +85,21 @@ stored-part d at k off place xs e h r =
 
 -- Octets that fit are stored, and the answer is the offset behind them.
 pub write-fits : (d : List ℕ) (at : ℕ) (xs : List ℕ) → at + length xs ≤ length d
-    → writeAt d at xs ≡ wrote (WrittenTo (at + length xs)) (stored d at xs)
+    → writeAt d at xs ≡ afterwards (WrittenTo (at + length xs)) (stored d at xs)
 unfolding writeAt
 write-fits d at xs h = rw (le-leb _ _ h)
 
 -- Octets that do not fit change nothing.
-pub write-full : (d : List ℕ) (at : ℕ) (xs : List ℕ) → length d < at + length xs → writeAt d at xs ≡ wrote Full d
+pub write-full : (d : List ℕ) (at : ℕ) (xs : List ℕ) → length d < at + length xs → writeAt d at xs ≡ afterwards Full d
 unfolding writeAt
 write-full d at xs h = rw (lt-leb _ _ h)
 
 -- The same where the number of the octets is known as n.
 pub write-fits-of : (d : List ℕ) (at n : ℕ) (xs : List ℕ) → length xs ≡ n → at + n ≤ length d
-    → writeAt d at xs ≡ wrote (WrittenTo (at + n)) (stored d at xs)
+    → writeAt d at xs ≡ afterwards (WrittenTo (at + n)) (stored d at xs)
 write-fits-of d at n xs e h = let r : at + length xs ≤ length d = omega arith in write-fits d at xs r ∙ rw e
 
-pub write-full-of : (d : List ℕ) (at n : ℕ) (xs : List ℕ) → length xs ≡ n → length d < at + n → writeAt d at xs ≡ wrote Full d
+pub write-full-of : (d : List ℕ) (at n : ℕ) (xs : List ℕ) → length xs ≡ n → length d < at + n → writeAt d at xs ≡ afterwards Full d
 write-full-of d at n xs e h = write-full d at xs (omega arith)
 
 -- A string with its padding has so many octets as its length up to a multiple of four.
@@ -120,7 +120,7 @@ pub record Fitted (d : List ℕ) (at : ℕ) (xs : List ℕ) (r : Written) (e : L
   pub octets-are : e ≡ stored d at xs
 
 pub wrote-fits : (d : List ℕ) (at : ℕ) (xs : List ℕ) (r : Written) (e : List ℕ)
-    → wrote r e ≡ writeAt d at xs → at + length xs ≤ length d
+    → afterwards r e ≡ writeAt d at xs → at + length xs ≤ length d
     → Fitted d at xs r e
 wrote-fits d at xs r e q h = let f = write-fits d at xs h in record { answer-is = cc; octets-are = cc }
 
@@ -131,7 +131,7 @@ pub record WriteDone (d : List ℕ) (at : ℕ) (xs : List ℕ) (next : ℕ) (e :
   pub octets-are : e ≡ stored d at xs
 
 pub write-done : (d : List ℕ) (at : ℕ) (xs : List ℕ) (r : Written) (e : List ℕ) (next : ℕ)
-    → wrote r e ≡ writeAt d at xs → r ≡ WrittenTo next
+    → afterwards r e ≡ writeAt d at xs → r ≡ WrittenTo next
     → WriteDone d at xs next e
 unfolding writeAt
 write-done d at xs r e next q a =
@@ -144,7 +144,7 @@ pub record NoRoom (d : List ℕ) (at : ℕ) (xs : List ℕ) (e : List ℕ) : Typ
   pub octets-are : e ≡ d
 
 pub write-no-room : (d : List ℕ) (at : ℕ) (xs : List ℕ) (r : Written) (e : List ℕ)
-    → wrote r e ≡ writeAt d at xs → r ≡ Full → NoRoom d at xs e
+    → afterwards r e ≡ writeAt d at xs → r ≡ Full → NoRoom d at xs e
 unfolding writeAt
 write-no-room d at xs r e q a =
     let h = tested-no (at + length xs) (length d) _ _ _ (λ f. never (cc)) (sym q) in
@@ -152,7 +152,7 @@ write-no-room d at xs r e q a =
 
 -- A write keeps the length, whatever it answers.
 pub wrote-length : (d : List ℕ) (at : ℕ) (xs : List ℕ) (r : Written) (e : List ℕ)
-    → wrote r e ≡ writeAt d at xs → length e ≡ length d
+    → afterwards r e ≡ writeAt d at xs → length e ≡ length d
 unfolding writeAt
 wrote-length d at xs r e q =
     ⊎-elim
@@ -173,8 +173,8 @@ write-next d at next xs ys e h =
 
 -- The octets of a hyper are written as those of two words, the high one first.
 pub write-hyper-words : (d : List ℕ) (at v : ℕ) (r r′ : Written) (e e′ : List ℕ) → at + 8 ≤ length d
-    → wrote r e ≡ writeAt d at (octetsOf 4 (v / 4294967296)) → wrote r′ e′ ≡ writeAt e (at + 4) (octetsOf 4 (v % 4294967296))
-    → wrote r′ e′ ≡ writeAt d at (octetsOf 8 v)
+    → afterwards r e ≡ writeAt d at (octetsOf 4 (v / 4294967296)) → afterwards r′ e′ ≡ writeAt e (at + 4) (octetsOf 4 (v % 4294967296))
+    → afterwards r′ e′ ≡ writeAt d at (octetsOf 8 v)
 write-hyper-words d at v r r′ e e′ h p q =
     let high : List ℕ = octetsOf 4 (v / 4294967296) in
     let f = write-fits-of d at 4 high (octets-length 4 (v / 4294967296)) (omega arith) in

@@ -40,18 +40,14 @@ itemsAt s at [] = Run at
 itemsAt s at (w ∷ ws) = cond (leb (at + w) (length s)) (itemsAt s (at + w) ws) (CutRun at)
 
 -- the octets that items of these widths take
-abbrev pub sum : List ℕ → ℕ
-sum [] = 0
-sum (w ∷ ws) = w + sum ws
+abbrev pub totalWidth : List ℕ → ℕ
+totalWidth [] = 0
+totalWidth (w ∷ ws) = w + totalWidth ws
 
 -- the numbers that stand in items of these widths
 unfoldable pub numbersAt : List ℕ → ℕ → List ℕ → List ℕ
 numbersAt s at [] = []
 numbersAt s at (w ∷ ws) = numberAt s at w ∷ numbersAt s (at + w) ws
-
--- items of these widths, passed at once where so many octets as total says are there
-unfoldable pub runAt : List ℕ → ℕ → ℕ → List ℕ → RunRead
-runAt s at total ws = cond (leb (at + total) (length s)) (Run (at + total)) (itemsAt s at ws)
 
 -- whether so many octets from an offset on are zero
 unfoldable pub zerosAt : List ℕ → ℕ → ℕ → Zeros

@@ -3,7 +3,7 @@
 ghost use mathlib.Core.Path.{_≡_};
 ghost use Prim.Native.Nat.{_+_, _*_, _≤_};
 ghost use lib.ListN.{length};
-ghost use Rattle.xdr.specs.Items.{wordAt, hyperAt, quadAt, itemsAt, runAt, zerosAt, paddedAt};
+ghost use Rattle.xdr.specs.Items.{wordAt, hyperAt, quadAt, itemsAt, zerosAt, paddedAt};
 
 // A word, 4 octets: its value and the offset behind it, or the offset of a word that is cut short.
 pub enum WordRead {
@@ -85,21 +85,8 @@ pub enum RunRead {
     CutRun(usize),
 }
 
-// Items of these widths, whatever their values, one behind the other. Where so many octets as total says are there, one comparison
-// tells; with total the sum of the widths, the answer is that of reading item by item (law run-items).
-pub fn read_run(s: &[u8], at: usize, total: usize, widths: &[u8]) -> RunRead
-    ensures { λ r. ⌜ r ≡ runAt (now (s .entry)) at total (now (widths .entry)) ⌝ }
-{
-    if at <= s.len() {
-        if total <= s.len() - at {
-            return RunRead::Run(at + total);
-        }
-    }
-    each_item(s, at, widths)
-}
-
-// The same item by item.
-fn each_item(s: &[u8], first: usize, widths: &[u8]) -> RunRead
+// Items of these widths, whatever their values, one behind the other.
+pub fn read_run(s: &[u8], first: usize, widths: &[u8]) -> RunRead
     ensures { λ r. ⌜ r ≡ itemsAt (now (s .entry)) first (now (widths .entry)) ⌝ }
 {
     let mut at = first;

@@ -5,10 +5,10 @@ ghost use mathlib.Core.Path.{_≡_};
 ghost use Prim.Native.Nat.{_+_, _≤_};
 ghost use lib.ListN.{length, replicate};
 ghost use Rattle.xdr.specs.Numbers.{octetsOf};
-ghost use Rattle.xdr.specs.Writes.{stored, writeAt, wrote, paddedOctets};
+ghost use Rattle.xdr.specs.Writes.{stored, writeAt, afterwards, paddedOctets};
 
 pub fn write_word(d: &mut [u8], at: usize, v: u32) -> Written
-    ensures { λ r. ⌜ wrote r (now (d .exit)) ≡ writeAt (now (d .entry)) at (octetsOf 4 v) ⌝ }
+    ensures { λ r. ⌜ afterwards r (now (d .exit)) ≡ writeAt (now (d .entry)) at (octetsOf 4 v) ⌝ }
 {
     if d.len() < at {
         return Written::Full;
@@ -24,7 +24,7 @@ pub fn write_word(d: &mut [u8], at: usize, v: u32) -> Written
 }
 
 pub fn write_hyper(d: &mut [u8], at: usize, v: u64) -> Written
-    ensures { λ r. ⌜ wrote r (now (d .exit)) ≡ writeAt (now (d .entry)) at (octetsOf 8 v) ⌝ }
+    ensures { λ r. ⌜ afterwards r (now (d .exit)) ≡ writeAt (now (d .entry)) at (octetsOf 8 v) ⌝ }
 {
     if d.len() < at {
         return Written::Full;
@@ -37,7 +37,7 @@ pub fn write_hyper(d: &mut [u8], at: usize, v: u64) -> Written
 }
 
 pub fn write_octets(d: &mut [u8], at: usize, xs: &[u8]) -> Written
-    ensures { λ r. ⌜ wrote r (now (d .exit)) ≡ writeAt (now (d .entry)) at (now (xs .entry)) ⌝ }
+    ensures { λ r. ⌜ afterwards r (now (d .exit)) ≡ writeAt (now (d .entry)) at (now (xs .entry)) ⌝ }
 {
     let count = xs.len();
     if d.len() < at {
@@ -52,7 +52,7 @@ pub fn write_octets(d: &mut [u8], at: usize, xs: &[u8]) -> Written
 
 // A string's octets with their padding.
 pub fn write_padded(d: &mut [u8], at: usize, xs: &[u8]) -> Written
-    ensures { λ r. ⌜ wrote r (now (d .exit)) ≡ writeAt (now (d .entry)) at (paddedOctets (now (xs .entry))) ⌝ }
+    ensures { λ r. ⌜ afterwards r (now (d .exit)) ≡ writeAt (now (d .entry)) at (paddedOctets (now (xs .entry))) ⌝ }
 {
     let count = xs.len();
     let whole = (count + 3) / 4 * 4;

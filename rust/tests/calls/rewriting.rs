@@ -48,6 +48,7 @@ fn extended(entry: Extended<'_>) -> Vec<u8> {
     }
 }
 
+/// The sample written as octets of its own.
 fn sample(sample: &Sample<'_>) -> Vec<u8> {
     match sample {
         Sample::Flow(flow) => {
@@ -63,24 +64,40 @@ fn sample(sample: &Sample<'_>) -> Vec<u8> {
     }
 }
 
+/// The sample appended from its values.
+fn append(writer: &mut Writer<'_>, sample: &Sample<'_>) -> Result<usize, WriteRefusal> {
+    let flow = match sample {
+        Sample::Flow(flow) => flow,
+        Sample::Counter(counter) => {
+            return writer.append_counters(&counter.words, counter.counters())
+        }
+    };
+    let entries: Vec<u8> = flow.extended().flat_map(extended).collect();
+    let (words, count) = (&flow.words, flow.extended_count);
+    match &flow.packet {
+        PacketData::Header(header) => writer.append_header(words, header, count, &entries),
+        PacketData::Ipv4(data) => writer.append_ipv4(words, data, count, &entries),
+        PacketData::Ipv6(data) => writer.append_ipv6(words, data, count, &entries),
+    }
+}
+
 #[test]
 fn every_form() {
     let (capture, _) = forms::capture("every-form");
     for datagram in forms::datagrams(&capture) {
         let head = read(datagram).unwrap();
-        let mut buffer = [0; 65507];
-        let mut writer = Writer::start(
-            &mut buffer,
-            65507,
-            head.agent,
-            head.sequence_number,
-            head.uptime,
-        )
-        .unwrap();
+        let (agent, number, uptime) = (head.agent, head.sequence_number, head.uptime);
+        let mut buffers = [[0; 65507]; 2];
+        let [octets, values] = &mut buffers;
+        let mut of_octets = Writer::start(octets, 65507, agent, number, uptime).unwrap();
+        let mut of_values = Writer::start(values, 65507, agent, number, uptime).unwrap();
         for read in head.samples() {
             assert_eq!(sample(&read), read.octets());
-            writer.append(&sample(&read)).unwrap();
+            let end = read.offset() + read.length();
+            assert_eq!(of_octets.append(&sample(&read)), Ok(end));
+            assert_eq!(append(&mut of_values, &read), Ok(end));
         }
-        assert_eq!(writer.octets(), datagram);
+        assert_eq!(of_octets.octets(), datagram);
+        assert_eq!(of_values.octets(), datagram);
     }
 }

@@ -3,7 +3,7 @@ use Prim.Native.Nat.{_+_, _≤_}
 use native.Mathlib.Omega.{arith}
 use mathlib.Core.Path.{_∙_}
 use denote.Ref.{now}
-use Rattle.rules.specs.Records.{count, recordOf}
+use Rattle.rules.specs.Records.{ruleCount, recordOf}
 use Rattle.check_rules.proofs.Gosubs.{comes-back, otherwise-is, not-aimed}
 use Rattle.check_rules.proofs.comes_back_otherwise.Statement.{statement}
 use Rattle.check_rules.proofs.comes_back_otherwise.Tie as tie
@@ -20,9 +20,9 @@ add-record-at c =
     let at-record-at = at-is-aimed .before .before in
     let entry = at-record-at .before .before .before .before in
     let a = entry .args in
-    let h : a .g + a .back .rule .parameter ≤ count (now (a .s))
+    let h : a .g + a .back .rule .parameter ≤ ruleCount (now (a .s))
     = comes-back (recordOf (now (a .s))) (a .back .declared .home) (a .g) (at-record-at .record-at .result) _ (at-record-at .record-at .ensures) (at-is-aimed .is-aimed .ensures)
-    (count (now (a .s))) (a .back .rule .parameter) (entry .pre) (c .before .if1 .taken) in
+    (ruleCount (now (a .s))) (a .back .rule .parameter) (entry .pre) (c .before .if1 .taken) in
     omega arith
 
 record-at-requires-2 : tie.Need-record-at-requires-2
@@ -47,7 +47,7 @@ returns c =
     let a = entry .args in
     c .declares-otherwise .ensures
     ∙ otherwise-is (recordOf (now (a .s))) (a .back .declared .home) (a .g) (at-record-at .record-at .result) _ (at-record-at .record-at .ensures) (at-is-aimed .is-aimed .ensures)
-    (count (now (a .s))) (a .back .rule .parameter) (a .back .declared .held) (at-record-at2 .record-at2 .result) (at-if1 .if1 .taken) (at-record-at2 .record-at2 .ensures)
+    (ruleCount (now (a .s))) (a .back .rule .parameter) (a .back .declared .held) (at-record-at2 .record-at2 .result) (at-if1 .if1 .taken) (at-record-at2 .record-at2 .ensures)
 
 returns-2 : tie.Need-returns-2
 returns-2 c =
@@ -55,7 +55,7 @@ returns-2 c =
     let entry = at-record-at .before .before .before .before in
     let a = entry .args in
     not-aimed (recordOf (now (a .s))) (a .back .declared .home) (a .g) (at-record-at .record-at .result) _ (at-record-at .record-at .ensures) (c .before .is-aimed .ensures)
-    (count (now (a .s))) _ (c .if1 .left)
+    (ruleCount (now (a .s))) _ (c .if1 .left)
 
 pub comes-back-otherwise-spec : {M : Type 1} → statement M
 comes-back-otherwise-spec =

@@ -8,8 +8,8 @@ use borrow.Author.Needs.{needs}
 use Rattle.rules.proofs.Tests.{some-false}
 use Rattle.rules.specs.declared.RuleCheck.the-variants.{Fine}
 use Rattle.rules.specs.declared.CheckAnswer.the-variants.{Accepted}
-use Rattle.rules.specs.Records.{count, ruleOf, declaredOf}
-use Rattle.rules.specs.Checks.{some, comesBackNowhere, named, firstOf, ruleCheck}
+use Rattle.rules.specs.Records.{ruleCount, ruleOf, declaredOf}
+use Rattle.rules.specs.Checks.{anyUpTo, comesBackNowhere, named, firstBroken, ruleCheck}
 use Rattle.rules.specs.Opcodes.{isReturn}
 use Rattle.check_rules.proofs.Gosubs.{some-more, some-here}
 use Rattle.check_rules.proofs.RuleChecks.{nowhereFrom, otherwiseFrom, Kept, no-return, comes-back, breaks-alone, goes-on, breaks-target, breaks-successor}
@@ -18,25 +18,25 @@ use Rattle.check_rules.proofs.first_refusal.Statement.{statement}
 use Rattle.check_rules.proofs.first_refusal.Tie as tie
 
 abbrev Inv-loop : tie.InvT-loop
-Inv-loop s n i own g₀ g = (g ≤ n) × (some (comesBackNowhere n (ruleOf s) (declaredOf s) (own .declared .home) (own .rule .parameter)) g ≡ false)
+Inv-loop s n i own g₀ g = (g ≤ n) × (anyUpTo (comesBackNowhere n (ruleOf s) (declaredOf s) (own .declared .home) (own .rule .parameter)) g ≡ false)
 
 abbrev μ-loop : tie.MeasureT-loop
 μ-loop s n i own g₀ g = n - g
 
 abbrev Inv-loop2 : tie.InvT-loop2
-Inv-loop2 s n i own g h₀ h = (h ≤ n) × (some (otherwiseFrom s own) h ≡ false)
+Inv-loop2 s n i own g h₀ h = (h ≤ n) × (anyUpTo (otherwiseFrom s own) h ≡ false)
 
 abbrev μ-loop2 : tie.MeasureT-loop2
 μ-loop2 s n i own g h₀ h = n - h
 
 abbrev Inv-rules : tie.InvT-rules
-Inv-rules s n i₀ found₀ i found = (i ≤ n) × (found ≡ Fine) × (firstOf (ruleCheck s) i ≡ Accepted)
+Inv-rules s n i₀ found₀ i found = (i ≤ n) × (found ≡ Fine) × (firstBroken (ruleCheck s) i ≡ Accepted)
 
 abbrev μ-rules : tie.MeasureT-rules
 μ-rules s n i₀ found₀ i found = n - i
 
 rules-holds : tie.Need-rules-holds Inv-loop μ-loop Inv-loop2 μ-loop2 Inv-rules μ-rules
-rules-holds c = (omega arith, refl, unfold firstOf in refl)
+rules-holds c = (omega arith, refl, unfold firstBroken in refl)
 
 add-i : tie.Need-add-i Inv-loop μ-loop Inv-loop2 μ-loop2 Inv-rules μ-rules
 add-i c = omega arith
@@ -100,8 +100,8 @@ comes-back-otherwise-requires c κs =
     let entry = at-record-at .before .before .before .before in
     let s = now (entry .args .s) in
     let l = at-loop .loop in
-    let e : l .g ≡ count s = omega (arith, l .inv .0, c .before .before .loop-test .left) in
-    some-false (nowhereFrom s (at-record-at .record-at .result)) (count s) (rw e at (l .inv .1)) (c .before .loop2 .h + 1) (omega arith) (omega arith)
+    let e : l .g ≡ ruleCount s = omega (arith, l .inv .0, c .before .before .loop-test .left) in
+    some-false (nowhereFrom s (at-record-at .record-at .result)) (ruleCount s) (rw e at (l .inv .1)) (c .before .loop2 .h + 1) (omega arith) (omega arith)
 
 loop2-less : tie.Need-loop2-less Inv-loop μ-loop Inv-loop2 μ-loop2 Inv-rules μ-rules
 loop2-less c = omega arith
@@ -125,8 +125,8 @@ kept c =
     let own = at-record-at .record-at .result in
     ⊎-elim
     (λ w.
-    let e : w .1 .g ≡ count s = omega (arith, w .1 .inv .0, w .2 .left) in
-    let f : w .3 .h ≡ count s = omega (arith, w .3 .inv .0, w .4 .left) in
+    let e : w .1 .g ≡ ruleCount s = omega (arith, w .1 .inv .0, w .2 .left) in
+    let f : w .3 .h ≡ ruleCount s = omega (arith, w .3 .inv .0, w .4 .left) in
     comes-back s own (rw e at (w .1 .inv .1)) (rw f at (w .3 .inv .1)))
     (λ w. no-return s own (ap isReturn (sym (c .before .before .action-of .ensures)) ∙ sym (c .before .is-return .ensures) ∙ w .left))
     (c .if1 .came)
@@ -169,28 +169,28 @@ answer-of-requires c κs = search needs
 
 -- how the outer loop is left: by its test, or by one of the four breaks
 out : (c : tie.Left-rules Inv-loop μ-loop Inv-loop2 μ-loop2 Inv-rules μ-rules)
-    → firstOf (ruleCheck (now (c .before .before .before .args .s))) (count (now (c .before .before .before .args .s))) ≡ named (c .rules-test .found) (c .rules-test .i)
+    → firstBroken (ruleCheck (now (c .before .before .before .args .s))) (ruleCount (now (c .before .before .before .args .s))) ≡ named (c .rules-test .found) (c .rules-test .i)
 out c =
     let s = now (c .before .before .before .args .s) in
     let i = c .before .rules .i in
     let inv = c .before .rules .inv in
     ⊎-elim
-    (λ w. none-broken (ruleCheck s) i (count s) _ _ (inv .2) (omega arith) (w .2 ∙ inv .1))
+    (λ w. none-broken (ruleCheck s) i (ruleCount s) _ _ (inv .2) (omega arith) (w .2 ∙ inv .1))
     (⊎-elim
-    (λ w. first-broken (ruleCheck s) i (count s) _ _ _ (inv .2) (omega arith) (breaks-alone s (w .1 .result) (i + 1) (w .1 .ensures) _ (sym (w .3 .ensures) ∙ w .5 .given .1)) (w .6) (w .7 ∙ w .5 .given .1))
+    (λ w. first-broken (ruleCheck s) i (ruleCount s) _ _ _ (inv .2) (omega arith) (breaks-alone s (w .1 .result) (i + 1) (w .1 .ensures) _ (sym (w .3 .ensures) ∙ w .5 .given .1)) (w .6) (w .7 ∙ w .5 .given .1))
     (⊎-elim
-    (λ w. first-broken (ruleCheck s) i (count s) _ _ _ (inv .2) (omega arith)
+    (λ w. first-broken (ruleCheck s) i (ruleCount s) _ _ _ (inv .2) (omega arith)
     (breaks-target s (w .1 .result) (i + 1) (w .1 .ensures) (sym (w .3 .ensures) ∙ w .5 .given .1) (ap isReturn (sym (w .6 .ensures)) ∙ sym (w .7 .ensures) ∙ w .8 .taken)
-    (some-here (nowhereFrom s (w .1 .result)) (count s) (w .9 .g + 1) (omega arith) (omega arith) (sym (w .11 .ensures) ∙ w .12 .taken))) (w .13) (w .14))
+    (some-here (nowhereFrom s (w .1 .result)) (ruleCount s) (w .9 .g + 1) (omega arith) (omega arith) (sym (w .11 .ensures) ∙ w .12 .taken))) (w .13) (w .14))
     (⊎-elim
     (λ w.
-    let e : w .9 .g ≡ count s = omega (arith, w .9 .inv .0, w .10 .left) in
-    first-broken (ruleCheck s) i (count s) _ _ _ (inv .2) (omega arith)
+    let e : w .9 .g ≡ ruleCount s = omega (arith, w .9 .inv .0, w .10 .left) in
+    first-broken (ruleCheck s) i (ruleCount s) _ _ _ (inv .2) (omega arith)
     (breaks-successor s (w .1 .result) (i + 1) (w .1 .ensures) (sym (w .3 .ensures) ∙ w .5 .given .1) (ap isReturn (sym (w .6 .ensures)) ∙ sym (w .7 .ensures) ∙ w .8 .taken) (rw e at (w .9 .inv .1))
-    (some-here (otherwiseFrom s (w .1 .result)) (count s) (w .11 .h + 1) (omega arith) (omega arith) (sym (w .13 .ensures) ∙ w .14 .taken))) (w .15) (w .16))
+    (some-here (otherwiseFrom s (w .1 .result)) (ruleCount s) (w .11 .h + 1) (omega arith) (omega arith) (sym (w .13 .ensures) ∙ w .14 .taken))) (w .15) (w .16))
     (λ w.
     let j : tie.Joined1 Inv-loop μ-loop Inv-loop2 μ-loop2 Inv-rules μ-rules = record { before = record { before = record { before = record { before = record { before = record { before = record { before = record { before = record { before = c .before; rules-test = w .0 }; record-at = w .1 }; rule = w .2 }; check-record = w .3 }; match = w .4 }; enum-told = w .5 }; action-of = w .6 }; is-return = w .7 }; if1 = w .8 } in
-    first-broken (ruleCheck s) i (count s) _ _ _ (inv .2) (omega arith)
+    first-broken (ruleCheck s) i (ruleCount s) _ _ _ (inv .2) (omega arith)
     (goes-on s (w .1 .result) (i + 1) (w .1 .ensures) (sym (w .3 .ensures) ∙ w .5 .given .1) (kept j .0) ∙ sym (w .9 .ensures) ∙ w .11 .given .1) (w .12) (w .13 ∙ w .11 .given .1)))))
     (c .rules-test .came)
 

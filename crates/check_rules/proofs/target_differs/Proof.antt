@@ -1,7 +1,7 @@
 use borrow.Author.Needs.{needs}
 use mathlib.Core.Path.{sym, _∙_}
 use denote.Ref.{now}
-use Rattle.rules.specs.Records.{count, recordOf}
+use Rattle.rules.specs.Records.{ruleCount, recordOf}
 use Rattle.check_rules.proofs.Successors.{no-target, gosub-target, other-target}
 use Rattle.check_rules.proofs.target_differs.Statement.{statement}
 use Rattle.check_rules.proofs.target_differs.Tie as tie
@@ -37,7 +37,7 @@ returns c =
     let entry = at-has-goto-flag .before .before .before .before in
     let a = entry .args in
     c .declares-otherwise .ensures
-    ∙ gosub-target (recordOf (now (a .s))) (count (now (a .s))) (a .own) (a .action) (entry .pre .0)
+    ∙ gosub-target (recordOf (now (a .s))) (ruleCount (now (a .s))) (a .own) (a .action) (entry .pre .0)
     (at-record-at .record-at .result) (at-record-at .record-at .ensures) (sym (at-has-goto-flag .has-goto-flag .ensures) ∙ at-if1 .if1 .taken)
     (sym (at-is-gosub .is-gosub .ensures) ∙ at-if2 .if2 .taken)
 
@@ -60,7 +60,7 @@ returns-2 c =
     let entry = at-has-goto-flag .before .before .before .before in
     let a = entry .args in
     c .declares-otherwise2 .ensures
-    ∙ other-target (recordOf (now (a .s))) (count (now (a .s))) (a .own) (a .action) (entry .pre .0)
+    ∙ other-target (recordOf (now (a .s))) (ruleCount (now (a .s))) (a .own) (a .action) (entry .pre .0)
     (at-record-at .record-at .result) _ (at-record-at .record-at .ensures) (sym (at-has-goto-flag .has-goto-flag .ensures) ∙ at-if1 .if1 .taken)
     (sym (at-is-gosub .is-gosub .ensures) ∙ at-if2 .if2 .left) (c .before .held-after .ensures)
 
@@ -68,7 +68,7 @@ returns-3 : tie.Need-returns-3
 returns-3 c =
     let entry = c .before .before .before .before .before in
     let a = entry .args in
-    no-target (recordOf (now (a .s))) (count (now (a .s))) (a .own) (a .action) (entry .pre .0)
+    no-target (recordOf (now (a .s))) (ruleCount (now (a .s))) (a .own) (a .action) (entry .pre .0)
     (sym (c .before .has-goto-flag .ensures) ∙ c .if1 .left)
 
 pub target-differs-spec : {M : Type 1} → statement M

@@ -1,5 +1,5 @@
 use mathlib.Core.Path.{sym, _∙_}
-use Rattle.counter_calls.proofs.BodyNumbers.{numbers-cut, version-within, numbers-short, counters-room, numbers-there, body-put}
+use Rattle.counter_calls.proofs.BodyNumbers.{version-cut, version-within, counters-short, counters-room, counters-there, none-put, body-put}
 use borrow.Author.Needs.{needs}
 use Rattle.counter_calls.proofs.fill_values.Statement.{statement}
 use Rattle.counter_calls.proofs.fill_values.Tie as tie
@@ -22,7 +22,7 @@ same-length c = search needs
 returns : tie.Need-returns
 returns c =
     let at-told = c .before .before .before .before in
-    rw (numbers-cut _ _ _ (sym (at-told .before .before .read-word .ensures) ∙ at-told .enum-told .given .1)) (c .before .before .put-zeros .ensures)
+    rw (version-cut _ _ _ (sym (at-told .before .before .read-word .ensures) ∙ at-told .enum-told .given .1)) (none-put _ _ (c .before .before .put-zeros .ensures))
 
 sub-if1 : tie.Need-sub-if1
 sub-if1 c =
@@ -44,8 +44,7 @@ returns-2 c =
     let at-size = at-if1 .before in
     let at-version = at-size .before .before in
     let word = sym (at-version .before .before .read-word .ensures) ∙ at-version .version .given .1 in
-    rw (numbers-short _ _ _ _ word _ (at-size .body-size .ensures) (at-if1 .if1 .taken))
-    (c .before .before .put-zeros2 .ensures)
+    rw (counters-short _ _ _ _ word _ (at-size .body-size .ensures) (at-if1 .if1 .taken)) (none-put _ _ (c .before .before .put-zeros2 .ensures))
 
 counter-count-requires : tie.Need-counter-count-requires
 counter-count-requires c κs = search needs
@@ -79,7 +78,7 @@ returns-3 c =
     let at-size = at-if1 .before in
     let at-version = at-size .before .before in
     let word = sym (at-version .before .before .read-word .ensures) ∙ at-version .version .given .1 in
-    rw (numbers-there _ _ _ _ word (counters-room _ _ _ _ word _ (at-size .body-size .ensures) (at-if1 .if1 .left)))
+    rw (counters-there _ _ _ _ word (counters-room _ _ _ _ word _ (at-size .body-size .ensures) (at-if1 .if1 .left)))
     (body-put _ _ _ _ _ _ _ _ (at-count .counter-count .ensures .0) (at-count .counter-count .ensures .1) (at-put .put .ensures)
     (at-put-version .put-version .ensures) (c .before .before .put-zeros3 .ensures))
 

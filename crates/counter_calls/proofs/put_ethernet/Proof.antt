@@ -37,7 +37,7 @@ returns c =
     let at-interface = at-words .before .before .before .before .before in
     let a = at-interface .before .before .before .before .args in
     then-put _ _ _ _ _ _ _ _ _ _ (at-interface .put-interface .ensures)
-    (part-put (a .s .now) _ _ (a .at + 88) (a .at + 140) 27 (replicate 13 4) (omega arith) (at-words .put-words .ensures)) refl refl
+    (part-put (a .s .now) _ _ (a .at + 88) (a .at + 140) 20 (replicate 13 4) (omega arith) (at-words .put-words .ensures)) refl refl
 
 pub put-ethernet-spec : {M : Type 1} → statement M
 put-ethernet-spec =

@@ -53,7 +53,7 @@ returns c =
     let at-second = at-third .before .before .before .before in
     let at-first = at-second .before .before .before .before in
     let a = at-first .before .before .before .before .before .args in
-    part-put (a .s .now) _ _ (a .at) (a .at + 88) 8 if-counters (omega arith)
+    part-put (a .s .now) _ _ (a .at) (a .at + 88) 1 if-counters (omega arith)
     (then-put _ _ _ _ _ _ _ _ _ _
     (then-put _ _ _ _ _ _ _ _ _ _
     (then-put _ _ _ _ _ _ _ _ _ _

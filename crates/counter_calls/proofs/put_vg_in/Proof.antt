@@ -45,7 +45,7 @@ returns c =
     let at-second = at-third .before .before .before .before in
     let at-first = at-second .before .before .before .before in
     let a = at-first .before .before .before .before .before .args in
-    part-put (a .s .now) _ _ (a .at) (a .at + 40) 27 (4 ∷ 8 ∷ 4 ∷ 8 ∷ 4 ∷ 4 ∷ 4 ∷ 4 ∷ []) (omega arith)
+    part-put (a .s .now) _ _ (a .at) (a .at + 40) 20 (4 ∷ 8 ∷ 4 ∷ 8 ∷ 4 ∷ 4 ∷ 4 ∷ 4 ∷ []) (omega arith)
     (then-put _ _ _ _ _ _ _ _ _ _
     (then-put _ _ _ _ _ _ _ _ _ _
     (then-put _ _ _ _ _ _ _ _ _ _

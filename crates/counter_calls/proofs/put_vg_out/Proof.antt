@@ -49,7 +49,7 @@ returns c =
     let at-second = at-third .before .before .before .before in
     let at-first = at-second .before .before .before .before in
     let a = at-first .before .before .before .before .before .args in
-    part-put (a .s .now) _ _ (a .at) (a .at + 40) 35 (4 ∷ 8 ∷ 4 ∷ 8 ∷ 8 ∷ 8 ∷ []) (omega arith)
+    part-put (a .s .now) _ _ (a .at) (a .at + 40) 28 (4 ∷ 8 ∷ 4 ∷ 8 ∷ 8 ∷ 8 ∷ []) (omega arith)
     (then-put _ _ _ _ _ _ _ _ _ _
     (then-put _ _ _ _ _ _ _ _ _ _
     (then-put _ _ _ _ _ _ _ _ _ _

@@ -37,7 +37,7 @@ returns c =
     let at-second = at-third .before .before .before .before in
     let at-first = at-second .before .before .before .before in
     let a = at-first .before .before .before .before .before .args in
-    part-put (a .s .now) _ _ (a .at) (a .at + 28) 8 vlan-counters (omega arith)
+    part-put (a .s .now) _ _ (a .at) (a .at + 28) 1 vlan-counters (omega arith)
     (then-put _ _ _ _ _ _ _ _ _ _
     (then-put _ _ _ _ _ _ _ _ _ _ (at-first .put-words .ensures) (at-second .put-hyper .ensures) refl refl)
     (at-third .put-words2 .ensures) refl refl)

@@ -8,10 +8,10 @@ use Rattle.counter_calls.proofs.put_zeros.Statement.{statement}
 use Rattle.counter_calls.proofs.put_zeros.Tie as tie
 
 abbrev Inv-loop : tie.InvT-loop
-Inv-loop n out₀ i₀ out i = (i ≤ 45) × (length out ≡ length out₀) × (filledBehind i (replicate (45 - i) 0) out ≡ filledBehind n (replicate (45 - n) 0) out₀)
+Inv-loop n out₀ i₀ out i = (i ≤ 38) × (length out ≡ length out₀) × (filledBehind i (replicate (38 - i) 0) out ≡ filledBehind n (replicate (38 - n) 0) out₀)
 
 abbrev μ-loop : tie.MeasureT-loop
-μ-loop n out₀ i₀ out i = 45 - i
+μ-loop n out₀ i₀ out i = 38 - i
 
 loop-holds : tie.Need-loop-holds Inv-loop μ-loop
 loop-holds c = (c .before .pre, refl, refl)

@@ -2,7 +2,7 @@ use mathlib.Core.Path.{sym, ap}
 use mathlib.Core.Logic.{⊎-elim}
 use mathlib.Core.List.{List}
 use Prim.Native.Nat.{ℕ}
-use Rattle.xdr.specs.Items.{sum}
+use Rattle.xdr.specs.Items.{totalWidth}
 use Rattle.counter_data.proofs.Bodies.{size-of, no-widths}
 use Rattle.counter_data.proofs.body_size.Statement.{statement}
 use Rattle.counter_data.proofs.body_size.Tie as tie
@@ -23,7 +23,7 @@ returns-5 : tie.Need-returns-5
 returns-5 c = size-of _ 7 (c .match .keys5)
 
 returns-6 : tie.Need-returns-6
-returns-6 c = let r = c .match .rest in sym (ap (λ (ws : List ℕ). sum ws) (no-widths _ (r .0 .0 .0 .0 .1) (r .0 .0 .0 .1) (r .0 .0 .1) (r .0 .1) (r .1)))
+returns-6 c = let r = c .match .rest in sym (ap (λ (ws : List ℕ). totalWidth ws) (no-widths _ (r .0 .0 .0 .0 .1) (r .0 .0 .0 .1) (r .0 .0 .1) (r .0 .1) (r .1)))
 
 pub body-size-spec : {M : Type 1} → statement M
 body-size-spec = tie.close (tie.spec returns returns-2 returns-3 returns-4 returns-5 returns-6)

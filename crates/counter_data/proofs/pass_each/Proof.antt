@@ -36,22 +36,21 @@ pass-run-requires-5 c κs = search needs
 
 returns : tie.Need-returns
 returns c =
-    let at-pre = c .before .before .before .before in
-    ⊎-elim (λ e. body-run _ _ _ _ 1 _ e (at-pre .pre) (c .pass-run .ensures))
-    (⊎-elim (λ e. body-run _ _ _ _ 4 _ e (at-pre .pre) (c .pass-run .ensures)) (λ e. body-run _ _ _ _ 6 _ e (at-pre .pre) (c .pass-run .ensures)))
+    ⊎-elim (λ e. body-run _ _ _ 1 _ e (c .pass-run .ensures))
+    (⊎-elim (λ e. body-run _ _ _ 4 _ e (c .pass-run .ensures)) (λ e. body-run _ _ _ 6 _ e (c .pass-run .ensures)))
     (c .before .before .match .keys1)
 
 returns-2 : tie.Need-returns-2
-returns-2 c = body-run _ _ _ _ 2 _ (c .before .before .match .keys2) (c .before .before .before .before .pre) (c .pass-run2 .ensures)
+returns-2 c = body-run _ _ _ 2 _ (c .before .before .match .keys2) (c .pass-run2 .ensures)
 
 returns-3 : tie.Need-returns-3
-returns-3 c = body-run _ _ _ _ 3 _ (c .before .before .match .keys3) (c .before .before .before .before .pre) (c .pass-run3 .ensures)
+returns-3 c = body-run _ _ _ 3 _ (c .before .before .match .keys3) (c .pass-run3 .ensures)
 
 returns-4 : tie.Need-returns-4
-returns-4 c = body-run _ _ _ _ 5 _ (c .before .before .match .keys4) (c .before .before .before .before .pre) (c .pass-run4 .ensures)
+returns-4 c = body-run _ _ _ 5 _ (c .before .before .match .keys4) (c .pass-run4 .ensures)
 
 returns-5 : tie.Need-returns-5
-returns-5 c = body-run _ _ _ _ 7 _ (c .before .before .match .keys5) (c .before .before .before .before .pre) (c .pass-run5 .ensures)
+returns-5 c = body-run _ _ _ 7 _ (c .before .before .match .keys5) (c .pass-run5 .ensures)
 
 returns-6 : tie.Need-returns-6
 returns-6 c = let r = c .match .rest in body-none _ _ _ (no-widths _ (r .0 .0 .0 .0 .1) (r .0 .0 .0 .1) (r .0 .0 .1) (r .0 .1) (r .1))

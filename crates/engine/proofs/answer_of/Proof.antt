@@ -14,9 +14,9 @@ returns-3 c = rw (c .match .keys3)
 returns-4 : tie.Need-returns-4
 returns-4 c =
     rw (
-      ne-eqb (c .before .args .opcode) 1 (c .match .rest .0 .0 .1),
-      ne-eqb (c .before .args .opcode) 2 (c .match .rest .0 .1),
-      ne-eqb (c .before .args .opcode) 3 (c .match .rest .1),
+      ne-eqb (c .before .args .number) 1 (c .match .rest .0 .0 .1),
+      ne-eqb (c .before .args .number) 2 (c .match .rest .0 .1),
+      ne-eqb (c .before .args .number) 3 (c .match .rest .1),
     )
 
 pub answer-of-spec : {M : Type 1} → statement M

@@ -1,8 +1,9 @@
 use Rattle.engine.proofs.Results.{flow-result}
 use Rattle.engine.proofs.Follows.{final-held}
+use Rattle.engine.specs.declared.EngineAnswer.the-variants.{Ended}
 use Rattle.packet.specs.Attributes.{attribute}
 use denote.Ref.{now}
-use mathlib.Core.Path.{refl}
+use mathlib.Core.Path.{refl, ap}
 use borrow.Author.Needs.{needs}
 use Rattle.engine.proofs.run_flow.Statement.{statement}
 use Rattle.engine.proofs.run_flow.Tie as tie
@@ -28,8 +29,8 @@ returns c =
     let entry = at-attributes-of .before .before .before in
     flow-result (now (entry .args .s)) (now (entry .args .x)) (entry .args .f) (at-attributes-of .attributes-of .result)
     (at-attributes-of .attributes-of .ensures) (entry .pre) (at-run-machine .run-machine .result) (at-run-machine .run-machine .ensures)
-    (record { answer = c .answer-of .result; key = c .before .key-of .result; rules = at-run-machine .run-machine .result .rules })
-    (c .answer-of .ensures) (c .before .key-of .ensures) refl
+    (record { answer = Ended (c .answer-of .result); key = c .before .key-of .result; rules = at-run-machine .run-machine .result .rules })
+    (ap Ended (c .answer-of .ensures)) (c .before .key-of .ensures) refl
 
 pub run-flow-spec : {M : Type 1} → statement M
 run-flow-spec =

@@ -4,8 +4,8 @@ use lib.ListN.{length}
 use Rattle.engine.proofs.Follows.{more, live, stepped, stepped-rules, finished}
 use denote.Ref.{now}
 use mathlib.Core.Path.{_≡_, refl, sym}
-use Rattle.rules.specs.Records.{count, ruleOf}
-use Rattle.rules.specs.Machine.{running, start, after}
+use Rattle.rules.specs.Records.{ruleCount, ruleOf}
+use Rattle.rules.specs.Machine.{running, initial, after}
 use Rattle.rules.specs.Demand.{bound}
 use Rattle.packet.specs.Attributes.{attribute}
 use Rattle.engine.specs.EngineStates.{outcomeOf}
@@ -14,10 +14,10 @@ use Rattle.engine.proofs.run_machine.Statement.{statement}
 use Rattle.engine.proofs.run_machine.Tie as tie
 
 abbrev Inv-loop : tie.InvT-loop
-Inv-loop s a n m₀ m = (outcomeOf (ruleOf s) (attribute a) m ≡ after (count s) (ruleOf s) (attribute a) (m .rules)) × (length (m .calls) ≡ 4) × (length (m .queue) ≡ 16)
+Inv-loop s a n m₀ m = (outcomeOf (ruleOf s) (attribute a) m ≡ after (ruleCount s) (ruleOf s) (attribute a) (m .rules)) × (length (m .calls) ≡ 4) × (length (m .queue) ≡ 16)
 
 abbrev μ-loop : tie.MeasureT-loop
-μ-loop s a n m₀ m = bound (count s) - m .rules
+μ-loop s a n m₀ m = bound (ruleCount s) - m .rules
 
 start-requires : tie.Need-start-requires Inv-loop μ-loop
 start-requires c κs = search needs
@@ -26,7 +26,7 @@ loop-holds : tie.Need-loop-holds Inv-loop μ-loop
 loop-holds c =
     let e = c .start .ensures in
     let entry = c .before .before .args in
-    let k : after (count (now (entry .s))) (ruleOf (now (entry .s))) (attribute (entry .a)) 0 ≡ running start = unfold after in refl in
+    let k : after (ruleCount (now (entry .s))) (ruleOf (now (entry .s))) (attribute (entry .a)) 0 ≡ running initial = unfold after in refl in
     rw e (sym k, refl, refl)
 
 step-once-requires : tie.Need-step-once-requires Inv-loop μ-loop

@@ -1,6 +1,6 @@
 use borrow.Author.Needs.{needs}
 use mathlib.Core.Path.{refl, sym, _∙_}
-use Rattle.fields.proofs.Forms.{passed-view, passed-run, passed-union-cut, passed-arm}
+use Rattle.fields.proofs.Forms.{passed-view, passed-words, passed-union-cut, passed-arm}
 use Rattle.extended_data.proofs.DataTypes.{other-kind}
 use Rattle.extended_data.proofs.pass_entry.Statement.{statement}
 use Rattle.extended_data.proofs.pass_entry.Tie as tie
@@ -17,11 +17,8 @@ enum-told c = search needs
 returns : tie.Need-returns
 returns c = sym (passed-union-cut _ _ _ _ _ _ (sym (c .before .before .read-word .ensures) ∙ c .enum-told .given .1))
 
-slice-aggregate-pass-run : tie.Need-slice-aggregate-pass-run
-slice-aggregate-pass-run c = search needs
-
-pass-run-requires : tie.Need-pass-run-requires
-pass-run-requires c κs = search needs
+pass-words-requires : tie.Need-pass-words-requires
+pass-words-requires c κs = search needs
 
 pass-router-requires : tie.Need-pass-router-requires
 pass-router-requires c κs = search needs
@@ -39,9 +36,9 @@ returns-2 : tie.Need-returns-2
 returns-2 c =
     sym
     (passed-arm _ _ _ _ _ _ _
-    (sym (c .before .before .before .before .before .before .read-word .ensures) ∙ c .before .before .before .before .kind .given .1) 1
-    (c .before .before .match2 .keys1) refl
-    ∙ (passed-run _ _ _ _ _ refl (sym (c .pass-run .ensures))))
+    (sym (c .before .before .before .before .before .read-word .ensures) ∙ c .before .before .before .kind .given .1) 1
+    (c .before .match2 .keys1) refl
+    ∙ (passed-words _ 4 _ _ (sym (c .pass-words .ensures))))
 
 returns-3 : tie.Need-returns-3
 returns-3 c =
@@ -87,8 +84,7 @@ pass-entry-spec =
     enum-known-kind
     enum-told
     returns
-    slice-aggregate-pass-run
-    pass-run-requires
+    pass-words-requires
     pass-router-requires
     pass-gateway-requires
     pass-user-requires

@@ -1,14 +1,11 @@
 use borrow.Author.Needs.{needs}
-use mathlib.Core.Path.{refl, sym, _∙_}
-use Rattle.fields.proofs.Forms.{passed-run, passed-list, passed-list-cut, passed-then, passed-then-refused}
+use mathlib.Core.Path.{sym, _∙_}
+use Rattle.fields.proofs.Forms.{passed-words, passed-list, passed-list-cut, passed-then, passed-then-refused}
 use Rattle.extended_data.proofs.pass_gateway.Statement.{statement}
 use Rattle.extended_data.proofs.pass_gateway.Tie as tie
 
-slice-aggregate-pass-run : tie.Need-slice-aggregate-pass-run
-slice-aggregate-pass-run c = search needs
-
-pass-run-requires : tie.Need-pass-run-requires
-pass-run-requires c κs = search needs
+pass-words-requires : tie.Need-pass-words-requires
+pass-words-requires c κs = search needs
 
 enum-known-words : tie.Need-enum-known-words
 enum-known-words c = search needs
@@ -19,7 +16,7 @@ enum-told c = search needs
 returns : tie.Need-returns
 returns c =
     c .enum-told .given .1
-    ∙ sym (passed-then-refused _ _ _ _ _ _ (passed-run _ _ _ _ _ refl (sym (c .before .before .pass-run .ensures) ∙ c .enum-told .given .1)))
+    ∙ sym (passed-then-refused _ _ _ _ _ _ (passed-words _ 3 _ _ (sym (c .before .before .pass-words .ensures) ∙ c .enum-told .given .1)))
 
 read-word-requires : tie.Need-read-word-requires
 read-word-requires c κs = search needs
@@ -34,8 +31,8 @@ returns-2 : tie.Need-returns-2
 returns-2 c =
     sym
     (passed-then _ _ _ _ _
-    (passed-run _ _ _ _ _ refl
-    (sym (c .before .before .before .before .before .before .pass-run .ensures) ∙ c .before .before .before .before .words .given .1))
+    (passed-words _ 3 _ _
+    (sym (c .before .before .before .before .before .before .pass-words .ensures) ∙ c .before .before .before .before .words .given .1))
     ∙ passed-then-refused _ _ _ _ _ _ (passed-list-cut _ _ _ _ (sym (c .before .before .read-word .ensures) ∙ c .enum-told2 .given .1)))
 
 pass-segments-requires : tie.Need-pass-segments-requires
@@ -52,10 +49,10 @@ returns-3 c =
     let at-count = c .before .before .before .before in
     let at-read-word = at-count .before .before in
     let at-words = at-read-word .before .before in
-    let at-pass-run = at-words .before .before in
+    let at-pass-words = at-words .before .before in
     c .enum-told3 .given .1
     ∙ sym
-    (passed-then _ _ _ _ _ (passed-run _ _ _ _ _ refl (sym (at-pass-run .pass-run .ensures) ∙ at-words .words .given .1))
+    (passed-then _ _ _ _ _ (passed-words _ 3 _ _ (sym (at-pass-words .pass-words .ensures) ∙ at-words .words .given .1))
     ∙ passed-then-refused _ _ _ _ _ _
     (passed-list _ _ _ _ _ (sym (at-read-word .read-word .ensures) ∙ at-count .count .given .1)
     ∙ (sym (c .before .before .pass-segments .ensures) ∙ c .enum-told3 .given .1)))
@@ -76,45 +73,41 @@ returns-4 c =
     let at-count = at-pass-segments .before .before in
     let at-read-word = at-count .before .before in
     let at-words = at-read-word .before .before in
-    let at-pass-run = at-words .before .before in
+    let at-pass-words = at-words .before .before in
     c .enum-told4 .given .1
     ∙ sym
-    (passed-then _ _ _ _ _ (passed-run _ _ _ _ _ refl (sym (at-pass-run .pass-run .ensures) ∙ at-words .words .given .1))
+    (passed-then _ _ _ _ _ (passed-words _ 3 _ _ (sym (at-pass-words .pass-words .ensures) ∙ at-words .words .given .1))
     ∙ passed-then _ _ _ _ _
     (passed-list _ _ _ _ _ (sym (at-read-word .read-word .ensures) ∙ at-count .count .given .1)
     ∙ (sym (at-pass-segments .pass-segments .ensures) ∙ at-path .path .given .1))
     ∙ passed-then-refused _ _ _ _ _ _ (sym (c .before .before .pass-numbers .ensures) ∙ c .enum-told4 .given .1))
 
-slice-aggregate-pass-run-2 : tie.Need-slice-aggregate-pass-run-2
-slice-aggregate-pass-run-2 c = search needs
-
-pass-run-requires-2 : tie.Need-pass-run-requires-2
-pass-run-requires-2 c κs = search needs
+pass-item-requires : tie.Need-pass-item-requires
+pass-item-requires c κs = search needs
 
 returns-5 : tie.Need-returns-5
 returns-5 c =
-    let at-communities = c .before .before .before in
+    let at-communities = c .before .before in
     let at-pass-numbers = at-communities .before .before in
     let at-path = at-pass-numbers .before .before in
     let at-pass-segments = at-path .before .before in
     let at-count = at-pass-segments .before .before in
     let at-read-word = at-count .before .before in
     let at-words = at-read-word .before .before in
-    let at-pass-run = at-words .before .before in
+    let at-pass-words = at-words .before .before in
     sym
-    (passed-then _ _ _ _ _ (passed-run _ _ _ _ _ refl (sym (at-pass-run .pass-run .ensures) ∙ at-words .words .given .1))
+    (passed-then _ _ _ _ _ (passed-words _ 3 _ _ (sym (at-pass-words .pass-words .ensures) ∙ at-words .words .given .1))
     ∙ passed-then _ _ _ _ _
     (passed-list _ _ _ _ _ (sym (at-read-word .read-word .ensures) ∙ at-count .count .given .1)
     ∙ (sym (at-pass-segments .pass-segments .ensures) ∙ at-path .path .given .1))
     ∙ passed-then _ _ _ _ _ (sym (at-pass-numbers .pass-numbers .ensures) ∙ at-communities .communities .given .1)
-    ∙ (passed-run _ _ _ _ _ refl (sym (c .pass-run2 .ensures))))
+    ∙ sym (c .pass-item .ensures))
 
 pub pass-gateway-spec : {M : Type 1} → statement M
 pass-gateway-spec =
     tie.close
     (tie.spec
-    slice-aggregate-pass-run
-    pass-run-requires
+    pass-words-requires
     enum-known-words
     enum-told
     returns
@@ -130,6 +123,5 @@ pass-gateway-spec =
     enum-known-communities
     enum-told-4
     returns-4
-    slice-aggregate-pass-run-2
-    pass-run-requires-2
+    pass-item-requires
     returns-5)

@@ -1,6 +1,6 @@
 use borrow.Author.Needs.{needs}
-use mathlib.Core.Path.{refl, sym, _∙_}
-use Rattle.fields.proofs.Forms.{passed-run, passed-then, passed-then-refused}
+use mathlib.Core.Path.{sym, _∙_}
+use Rattle.fields.proofs.Forms.{passed-words, passed-then, passed-then-refused}
 use Rattle.extended_data.proofs.pass_router.Statement.{statement}
 use Rattle.extended_data.proofs.pass_router.Tie as tie
 
@@ -16,17 +16,14 @@ enum-told c = search needs
 returns : tie.Need-returns
 returns c = c .enum-told .given .1 ∙ sym (passed-then-refused _ _ _ _ _ _ (sym (c .before .before .pass-address .ensures) ∙ c .enum-told .given .1))
 
-slice-aggregate-pass-run : tie.Need-slice-aggregate-pass-run
-slice-aggregate-pass-run c = search needs
-
-pass-run-requires : tie.Need-pass-run-requires
-pass-run-requires c κs = search needs
+pass-words-requires : tie.Need-pass-words-requires
+pass-words-requires c κs = search needs
 
 returns-2 : tie.Need-returns-2
 returns-2 c =
     sym
-    (passed-then _ _ _ _ _ (sym (c .before .before .before .before .before .pass-address .ensures) ∙ c .before .before .before .nexthop .given .1)
-    ∙ passed-run _ _ _ _ _ refl (sym (c .pass-run .ensures)))
+    (passed-then _ _ _ _ _ (sym (c .before .before .before .before .pass-address .ensures) ∙ c .before .before .nexthop .given .1)
+    ∙ passed-words _ 2 _ _ (sym (c .pass-words .ensures)))
 
 pub pass-router-spec : {M : Type 1} → statement M
 pass-router-spec =
@@ -36,6 +33,5 @@ pass-router-spec =
     enum-known-nexthop
     enum-told
     returns
-    slice-aggregate-pass-run
-    pass-run-requires
+    pass-words-requires
     returns-2)

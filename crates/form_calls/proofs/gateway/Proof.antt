@@ -1,5 +1,4 @@
 use Rattle.numbers.proofs.Reports.{part-is}
-use Rattle.form_calls.specs.Forms.{gatewayForm}
 use borrow.Author.Tests.{le-leb, lt-leb}
 use lib.ListN.{length}
 use mathlib.Core.Path.{refl, sym}
@@ -8,7 +7,6 @@ use Rattle.form_calls.proofs.gateway.Statement.{statement}
 use Rattle.form_calls.proofs.gateway.Tie as tie
 
 returns : tie.Need-returns
-unfolding gatewayForm
 returns c = rw (lt-leb 5 (length (c .before .before .before .before .args .words .now)) (c .if1 .taken)) refl
 
 shared-slice-read-write-gateway : tie.Need-shared-slice-read-write-gateway
@@ -16,9 +14,6 @@ shared-slice-read-write-gateway c = search needs
 
 shared-slice-read-write-gateway-2 : tie.Need-shared-slice-read-write-gateway-2
 shared-slice-read-write-gateway-2 c = search needs
-
-shared-slice-read-t12 : tie.Need-shared-slice-read-t12
-shared-slice-read-t12 c = search needs
 
 shared-slice-read-write-gateway-3 : tie.Need-shared-slice-read-write-gateway-3
 shared-slice-read-write-gateway-3 c = search needs
@@ -35,6 +30,9 @@ part-write-gateway-end c = search needs
 shared-slice-read-write-gateway-4 : tie.Need-shared-slice-read-write-gateway-4
 shared-slice-read-write-gateway-4 c = search needs
 
+shared-slice-read-write-gateway-5 : tie.Need-shared-slice-read-write-gateway-5
+shared-slice-read-write-gateway-5 c = search needs
+
 write-gateway-requires : tie.Need-write-gateway-requires
 write-gateway-requires c κs = tt
 
@@ -42,7 +40,6 @@ same-length : tie.Need-same-length
 same-length c = c .before .buffer .given
 
 returns-2 : tie.Need-returns-2
-unfolding gatewayForm
 returns-2 c = let at-if = c .before .before .before .before .before .before .before .before .before .before in
     let ws = at-if .before .before .before .before .args .words .now in
     rw (le-leb 5 (length ws) (at-if .if1 .left), sym (part-is 5 ws))
@@ -55,12 +52,12 @@ gateway-spec =
     returns
     shared-slice-read-write-gateway
     shared-slice-read-write-gateway-2
-    shared-slice-read-t12
     shared-slice-read-write-gateway-3
+    shared-slice-read-write-gateway-4
     sub-write-gateway
     part-write-gateway-start
     part-write-gateway-end
-    shared-slice-read-write-gateway-4
+    shared-slice-read-write-gateway-5
     write-gateway-requires
     same-length
     returns-2)

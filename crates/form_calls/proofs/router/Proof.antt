@@ -1,5 +1,4 @@
 use Rattle.form_calls.proofs.FormLaws.{router-written}
-use Rattle.form_calls.specs.Forms.{routerForm}
 use borrow.Author.Tests.{ne-eqb}
 use lib.ListN.{length}
 use mathlib.Core.Path.{refl}
@@ -8,7 +7,6 @@ use Rattle.form_calls.proofs.router.Statement.{statement}
 use Rattle.form_calls.proofs.router.Tie as tie
 
 returns : tie.Need-returns
-unfolding routerForm
 returns c = rw (ne-eqb (length (c .before .before .before .args .words .now)) 7 (c .if1 .taken)) refl
 
 shared-slice-read-t7 : tie.Need-shared-slice-read-t7

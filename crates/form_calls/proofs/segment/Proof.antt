@@ -1,5 +1,4 @@
 use Rattle.numbers.proofs.Reports.{part-is}
-use Rattle.form_calls.specs.Forms.{segmentForm}
 use borrow.Author.Tests.{le-leb, lt-leb}
 use lib.ListN.{length}
 use mathlib.Core.Path.{refl, sym}
@@ -8,7 +7,6 @@ use Rattle.form_calls.proofs.segment.Statement.{statement}
 use Rattle.form_calls.proofs.segment.Tie as tie
 
 returns : tie.Need-returns
-unfolding segmentForm
 returns c = rw (lt-leb 1 (length (c .before .before .before .args .words .now)) (c .if1 .taken)) refl
 
 shared-slice-read-write-segment : tie.Need-shared-slice-read-write-segment
@@ -30,7 +28,6 @@ same-length : tie.Need-same-length
 same-length c = c .before .buffer .given
 
 returns-2 : tie.Need-returns-2
-unfolding segmentForm
 returns-2 c = let at-if = c .before .before .before .before .before .before in
     let ws = at-if .before .before .before .args .words .now in
     rw (le-leb 1 (length ws) (at-if .if1 .left), sym (part-is 1 ws)) (c .before .before .write-segment .ensures)

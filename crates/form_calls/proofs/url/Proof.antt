@@ -1,4 +1,3 @@
-use Rattle.form_calls.specs.Forms.{urlForm}
 use borrow.Author.Tests.{eq-eqb, ne-eqb}
 use lib.ListN.{length}
 use mathlib.Core.Path.{refl}
@@ -7,7 +6,6 @@ use Rattle.form_calls.proofs.url.Statement.{statement}
 use Rattle.form_calls.proofs.url.Tie as tie
 
 returns : tie.Need-returns
-unfolding urlForm
 returns c = rw (ne-eqb (length (c .before .before .before .before .args .words .now)) 1 (c .if1 .taken)) refl
 
 shared-slice-read-write-url : tie.Need-shared-slice-read-write-url
@@ -20,7 +18,6 @@ same-length : tie.Need-same-length
 same-length c = c .before .buffer .given
 
 returns-2 : tie.Need-returns-2
-unfolding urlForm
 returns-2 c = let k = c .before .before .before .before .before in
     rw (eq-eqb (length (k .before .before .before .before .args .words .now)) 1 (k .if1 .left)) (c .before .before .write-url .ensures)
 

@@ -1,4 +1,3 @@
-use Rattle.form_calls.specs.Forms.{userForm}
 use borrow.Author.Tests.{eq-eqb, ne-eqb}
 use lib.ListN.{length}
 use mathlib.Core.Path.{refl}
@@ -6,7 +5,6 @@ use Rattle.form_calls.proofs.user.Statement.{statement}
 use Rattle.form_calls.proofs.user.Tie as tie
 
 returns : tie.Need-returns
-unfolding userForm
 returns c = rw (ne-eqb (length (c .before .before .before .before .before .args .words .now)) 0 (c .if1 .taken)) refl
 
 write-user-requires : tie.Need-write-user-requires
@@ -16,7 +14,6 @@ same-length : tie.Need-same-length
 same-length c = c .before .buffer .given
 
 returns-2 : tie.Need-returns-2
-unfolding userForm
 returns-2 c = let k = c .before .before .before .before in
     rw (eq-eqb (length (k .before .before .before .before .before .args .words .now)) 0 (k .if1 .left)) (c .before .before .write-user .ensures)
 

@@ -1,4 +1,4 @@
--- `ledger::update_row` meets its contract: a walk of its MIR, by hand. The borrow is opened, the row is copied out, `update` is called on the copy, its row is stored over the old one, and the borrow is closed at that row.
+-- `ledger::update_row` meets its contract: a walk of its MIR, by hand. The borrow is opened, the row's fields are copied out and put together, `update` is called on that row, the fields of the row it answers are stored one by one, and the borrow is closed at that row.
 -- All that the proof knows of `update` is that it meets its contract.
 -- Assumes nothing.
 use mathlib.Core.Path.{_≡_, refl, ap}
@@ -17,13 +17,13 @@ use ghost.Atoms.{Atoms, sem}
 use contract.Monad.{Fun, fact}
 use contract.Running.{givenOf, tables, tablesOf}
 use types.Kit.{Given, ‵, raw, some, later, _⊛_, _$_, _∵_, !, qed, by, move, keep, drop, use0, use1, split, join, pick, rewrite, fsplit, fsplit3, fjoin, fjoin3, feqI, suffices, frame, await, done}
-use types.Run.{look, look-raw, init, store-raw, forget, stop, hop, fld, from, load, and-then, no-more, of-opd, assigns, land, returns, enter, alloc1, alloc0, params1, pass1, pass0, free1, free0}
-use types.Part.{whole, sub, look-in}
+use types.Run.{look, init, forget, stop, hop, fld, from, load, and-then, no-more, of-opd, assigns, land, returns, enter, alloc1, alloc0, params1, pass1, pass0, free1, free0}
+use types.Part.{whole, sub, look-in, store-in, agg}
 use types.SemTy.{Body}
 use sound.WpLaws.{FmC, fmOf, WpFn-mono}
 use denote.RattleType.{owns}
 use denote.Laws.{Is, shows}
-use denote.Memory.{mem}
+use denote.Memory.{mem, cellAt}
 use denote.Ref.{RefT, MutRef, ptr-vals, mut-tells}
 use denote.Signature.{plain}
 use denote.Steps.{only, opens, closes, owned, peeks, heard, nothing}
@@ -128,28 +128,61 @@ module _ {M : Type 1} (𝓤 : URA M) (H : Heap 𝓤) (A : Atoms 𝓤) (W : Given
         (0 ∷ 1 ∷ 3 ∷ []) $
         -- [obs; the borrow; the token; what flow owns; true]
         enter ! C Λ code.function (vptr b o ∷ flow-val f ∷ []) _ $
-        alloc1 ! (λ l₀. alloc1 ! (λ l₁. alloc1 ! (λ l₂. alloc1 ! (λ l₃. alloc1 ! (λ l₄. alloc0 ! $ params1 ! $ pass1 ! (init ! 6 refl (tt, tt)) $ pass1 ! (init ! 4 refl (LL.lawful F.the-type F′.the-laws 𝓤 H A W .typed f _ f-is .0)) $ pass0 ! $
-        move ! (10 ∷ 11 ∷ 12 ∷ []) $ opens ! tt T.the-row {h = h} b o (λ vs. spelt ! T.the-row (Is T.the-row) (shows 𝓤 H A T.the-row) (LL.vals T.the-type T′.the-laws) (LL.tells T.the-type T′.the-laws) fullShare h vs b o $
+        alloc1 ! (λ l₀. alloc1 ! (λ l₁. alloc1 ! (λ l₂. alloc1 ! (λ l₃. alloc1 ! (λ l₄. alloc1 ! (λ l₅. alloc1 ! (λ l₆. alloc1 ! (λ l₇. alloc1 ! (λ l₈. alloc1 ! (λ l₉. alloc1 ! (λ l₁₀. alloc1 ! (λ l₁₁. alloc0 ! $ params1 ! $ pass1 ! (init ! 20 refl (tt, tt)) $ pass1 ! (init ! 18 refl (LL.lawful F.the-type F′.the-laws 𝓤 H A W .typed f _ f-is .0)) $ pass0 ! $
+        move ! (24 ∷ 25 ∷ 26 ∷ []) $ opens ! tt T.the-row {h = h} b o (λ vs. spelt ! T.the-row (Is T.the-row) (shows 𝓤 H A T.the-row) (LL.vals T.the-type T′.the-laws) (LL.tells T.the-type T′.the-laws) fullShare h vs b o $
         move ! (1 ∷ []) $ peeks ! T.the-row (Is T.the-row) (shows 𝓤 H A T.the-row) h (row-val h ∷ []) (λ h-is. move ! (1 ∷ 0 ∷ []) $
-        -- [the row's cell; what the row owns; the open borrow; obs; auth; room for _4; …; room for _3; …; _2; …; _1; …; room for _0; …]
-        assigns ! (of-opd ! (load ! (from ! (hop ! (look ! 11 refl) (stop !))) (look-raw ! 0 refl))) (from ! (stop !))
-        (init ! 5 refl (LL.lawful T.the-type T′.the-laws 𝓤 H A W .typed h _ h-is .0)) $
+        -- [the row's cell; what the row owns; the open borrow; obs; auth; room for _11; …; room for _3; …; _2; …; _1; …; room for _0; …]
+        -- the cell with the names of its structs, of which one field is copied whole
+        use1 W (‵ (fat fullShare T′.mir b o (row-val h))) (W .laws .raw-at fullShare T′.mir b o (row-val h)) $
+        -- the row is taken apart: each field is copied out
+        assigns ! (of-opd ! (load ! (from ! (hop ! (look ! 25 refl) (fld ! refl (stop !)))) (look-in ! 0 (sub ! 0 refl (whole !))))) (from ! (stop !))
+        (init ! 17 refl (T′.the-laws .0 .lawful 𝓤 H A W .typed _ _ (LL.owed T.the-type T′.the-laws h _ h-is .0) .0)) $
+        assigns ! (of-opd ! (load ! (from ! (hop ! (look ! 25 refl) (fld ! refl (stop !)))) (look-in ! 0 (sub ! 1 refl (whole !))))) (from ! (stop !))
+        (init ! 15 refl (T′.the-laws .1 .0 .lawful 𝓤 H A W .typed _ _ (LL.owed T.the-type T′.the-laws h _ h-is .1 .0) .0)) $
+        assigns ! (of-opd ! (load ! (from ! (hop ! (look ! 25 refl) (fld ! refl (stop !)))) (look-in ! 0 (sub ! 2 refl (whole !))))) (from ! (stop !))
+        (init ! 13 refl (T′.the-laws .1 .1 .0 .lawful 𝓤 H A W .typed _ _ (LL.owed T.the-type T′.the-laws h _ h-is .1 .1 .0) .0)) $
+        assigns ! (of-opd ! (load ! (from ! (hop ! (look ! 25 refl) (fld ! refl (stop !)))) (look-in ! 0 (sub ! 3 refl (whole !))))) (from ! (stop !))
+        (init ! 11 refl (T′.the-laws .1 .1 .1 .0 .lawful 𝓤 H A W .typed _ _ (LL.owed T.the-type T′.the-laws h _ h-is .1 .1 .1 .0) .0)) $
+        assigns ! (of-opd ! (load ! (from ! (hop ! (look ! 25 refl) (fld ! refl (stop !)))) (look-in ! 0 (sub ! 4 refl (whole !))))) (from ! (stop !))
+        (init ! 9 refl (T′.the-laws .1 .1 .1 .1 .0 .lawful 𝓤 H A W .typed _ _ (LL.owed T.the-type T′.the-laws h _ h-is .1 .1 .1 .1 .0) .0)) $
+        assigns ! (of-opd ! (load ! (from ! (hop ! (look ! 25 refl) (fld ! refl (stop !)))) (look-in ! 0 (sub ! 5 refl (whole !))))) (from ! (stop !))
+        (init ! 7 refl (T′.the-laws .1 .1 .1 .1 .1 .0 .lawful 𝓤 H A W .typed _ _ (LL.owed T.the-type T′.the-laws h _ h-is .1 .1 .1 .1 .1 .0) .0)) $
+        assigns ! (of-opd ! (load ! (from ! (hop ! (look ! 25 refl) (fld ! refl (stop !)))) (look-in ! 0 (sub ! 6 refl (whole !))))) (from ! (stop !))
+        (init ! 5 refl (T′.the-laws .1 .1 .1 .1 .1 .1 .0 .lawful 𝓤 H A W .typed _ _ (LL.owed T.the-type T′.the-laws h _ h-is .1 .1 .1 .1 .1 .1 .0) .0)) $
+        -- and put together by value
+        assigns ! (agg ! (and-then ! (load ! (from ! (stop !)) (look ! 17 refl)) (and-then ! (load ! (from ! (stop !)) (look ! 15 refl)) (and-then ! (load ! (from ! (stop !)) (look ! 13 refl)) (and-then ! (load ! (from ! (stop !)) (look ! 11 refl)) (and-then ! (load ! (from ! (stop !)) (look ! 9 refl)) (and-then ! (load ! (from ! (stop !)) (look ! 7 refl)) (and-then ! (load ! (from ! (stop !)) (look ! 5 refl)) (no-more !))))))))) (from ! (stop !))
+        (init ! 21 refl (LL.lawful T.the-type T′.the-laws 𝓤 H A W .typed h _ h-is .0)) $
         use0 W (raw (Callee 𝓤 H A at-mem run .pre to-callee)) (asks h-is) $
-        calls-at ! fm (Callee 𝓤 H A at-mem run) known to-callee (and-then ! (load ! (from ! (stop !)) (look ! 6 refl)) (and-then ! (load ! (from ! (stop !)) (look ! 10 refl)) (no-more !))) (λ v.
+        calls-at ! fm (Callee 𝓤 H A at-mem run) known to-callee (and-then ! (load ! (from ! (stop !)) (look ! 22 refl)) (and-then ! (load ! (from ! (stop !)) (look ! 24 refl)) (no-more !))) (λ v.
         use1 W (later (some (λ (r : RowEntered). (‵ ftrue ⊛ ‵ (E.the-row .own r (v ∷ []))) ⊛ raw (ensured 𝓤 H A callee.ended (callee.clauses 𝓤 H A at-mem run) tt (h, (f, tt)) tt r)))) (id⊢ 𝓤 _) $ await ! tt $ pick ! (λ r.
         split ! $ move ! (1 ∷ []) $ use1 W (raw (fact 𝓤 (r ≡ updated h f))) (said-of 𝓤 H A at-mem run h f r) $ heard ! (r ≡ updated h f) (λ e. split ! $ drop ! $
         peeks ! E.the-row (Is E.the-row) (shows 𝓤 H A E.the-row) r (v ∷ []) (λ r-is. drop ! $
-        land ! (from ! (stop !)) (init ! 7 refl (LL.lawful E.the-type E′.the-laws 𝓤 H A W .typed r _ r-is .0)) $
-        rewrite ! 7 (λ (u : Val). ‵ (fat fullShare E′.mir l₃ 0 u)) (ap only (LL.tells E.the-type E′.the-laws r (v ∷ []) r-is)) refl $
-        assigns ! (of-opd ! (load ! (from ! (fld ! refl (stop !))) (look-in ! 7 (sub ! 1 refl (whole !))))) (from ! (hop ! (look ! 11 refl) (stop !)))
-        (store-raw ! 0 refl (LL.lawful T.the-type T′.the-laws 𝓤 H A W .typed (r .row) _ (LL.owed E.the-type E′.the-laws r _ r-is .1 .0) .0)) $
-        assigns ! (of-opd ! (load ! (from ! (fld ! refl (stop !))) (look-in ! 7 (sub ! 0 refl (whole !))))) (from ! (stop !))
-        (init ! 13 refl (EL.lawful An.the-type An′.the-laws 𝓤 H A W tt .typed (r .answer) _ (LL.owed E.the-type E′.the-laws r _ r-is .0) .0)) $
+        land ! (from ! (stop !)) (init ! 19 refl (LL.lawful E.the-type E′.the-laws 𝓤 H A W .typed r _ r-is .0)) $
+        rewrite ! 19 (λ (u : Val). ‵ (fat fullShare E′.mir l₄ 0 u)) (ap only (LL.tells E.the-type E′.the-laws r (v ∷ []) r-is)) refl $
+        -- the parts of the row that comes back are stored, one by one
+        assigns ! (of-opd ! (load ! (from ! (fld ! refl (fld ! refl (stop !)))) (look-in ! 19 (sub ! 0 refl (sub ! 1 refl (whole !)))))) (from ! (hop ! (look ! 25 refl) (fld ! refl (stop !))))
+        (store-in ! 0 (sub ! 0 refl (whole !)) (T′.the-laws .0 .lawful 𝓤 H A W .typed _ _ (LL.owed T.the-type T′.the-laws (r .row) _ (LL.owed E.the-type E′.the-laws r _ r-is .1 .0) .0) .0)) $
+        assigns ! (of-opd ! (load ! (from ! (fld ! refl (fld ! refl (stop !)))) (look-in ! 19 (sub ! 1 refl (sub ! 1 refl (whole !)))))) (from ! (hop ! (look ! 25 refl) (fld ! refl (stop !))))
+        (store-in ! 0 (sub ! 1 refl (whole !)) (T′.the-laws .1 .0 .lawful 𝓤 H A W .typed _ _ (LL.owed T.the-type T′.the-laws (r .row) _ (LL.owed E.the-type E′.the-laws r _ r-is .1 .0) .1 .0) .0)) $
+        assigns ! (of-opd ! (load ! (from ! (fld ! refl (fld ! refl (stop !)))) (look-in ! 19 (sub ! 2 refl (sub ! 1 refl (whole !)))))) (from ! (hop ! (look ! 25 refl) (fld ! refl (stop !))))
+        (store-in ! 0 (sub ! 2 refl (whole !)) (T′.the-laws .1 .1 .0 .lawful 𝓤 H A W .typed _ _ (LL.owed T.the-type T′.the-laws (r .row) _ (LL.owed E.the-type E′.the-laws r _ r-is .1 .0) .1 .1 .0) .0)) $
+        assigns ! (of-opd ! (load ! (from ! (fld ! refl (fld ! refl (stop !)))) (look-in ! 19 (sub ! 3 refl (sub ! 1 refl (whole !)))))) (from ! (hop ! (look ! 25 refl) (fld ! refl (stop !))))
+        (store-in ! 0 (sub ! 3 refl (whole !)) (T′.the-laws .1 .1 .1 .0 .lawful 𝓤 H A W .typed _ _ (LL.owed T.the-type T′.the-laws (r .row) _ (LL.owed E.the-type E′.the-laws r _ r-is .1 .0) .1 .1 .1 .0) .0)) $
+        assigns ! (of-opd ! (load ! (from ! (fld ! refl (fld ! refl (stop !)))) (look-in ! 19 (sub ! 4 refl (sub ! 1 refl (whole !)))))) (from ! (hop ! (look ! 25 refl) (fld ! refl (stop !))))
+        (store-in ! 0 (sub ! 4 refl (whole !)) (T′.the-laws .1 .1 .1 .1 .0 .lawful 𝓤 H A W .typed _ _ (LL.owed T.the-type T′.the-laws (r .row) _ (LL.owed E.the-type E′.the-laws r _ r-is .1 .0) .1 .1 .1 .1 .0) .0)) $
+        assigns ! (of-opd ! (load ! (from ! (fld ! refl (fld ! refl (stop !)))) (look-in ! 19 (sub ! 5 refl (sub ! 1 refl (whole !)))))) (from ! (hop ! (look ! 25 refl) (fld ! refl (stop !))))
+        (store-in ! 0 (sub ! 5 refl (whole !)) (T′.the-laws .1 .1 .1 .1 .1 .0 .lawful 𝓤 H A W .typed _ _ (LL.owed T.the-type T′.the-laws (r .row) _ (LL.owed E.the-type E′.the-laws r _ r-is .1 .0) .1 .1 .1 .1 .1 .0) .0)) $
+        assigns ! (of-opd ! (load ! (from ! (fld ! refl (fld ! refl (stop !)))) (look-in ! 19 (sub ! 6 refl (sub ! 1 refl (whole !)))))) (from ! (hop ! (look ! 25 refl) (fld ! refl (stop !))))
+        (store-in ! 0 (sub ! 6 refl (whole !)) (T′.the-laws .1 .1 .1 .1 .1 .1 .0 .lawful 𝓤 H A W .typed _ _ (LL.owed T.the-type T′.the-laws (r .row) _ (LL.owed E.the-type E′.the-laws r _ r-is .1 .0) .1 .1 .1 .1 .1 .1 .0) .0)) $
+        assigns ! (of-opd ! (load ! (from ! (fld ! refl (stop !))) (look-in ! 19 (sub ! 0 refl (whole !))))) (from ! (stop !))
+        (init ! 27 refl (EL.lawful An.the-type An′.the-laws 𝓤 H A W tt .typed (r .answer) _ (LL.owed E.the-type E′.the-laws r _ r-is .0) .0)) $
+        -- the cell is that of the row that came back, and closes the borrow
+        use1 W (‵ (cellAt fullShare (T.the-row .mir) (row-val (r .row) ∷ []) b o)) (W .laws .at-raw fullShare T′.mir b o (row-val (r .row))) $
         move ! (1 ∷ []) $ drop ! $ owned ! T.the-row (Is T.the-row) (LL.makes T.the-type T′.the-plain 𝓤 H A) (r .row) _
         (LL.owed E.the-type E′.the-laws r _ r-is .1 .0) $ move ! (1 ∷ 0 ∷ []) $ closes ! tt T.the-row (r .row) (row-val (r .row) ∷ []) b o $
-        returns ! (look ! 11 refl) $ forget ! 3 refl $ forget ! 5 refl $ forget ! 7 refl $ forget ! 9 refl $ forget ! 11 refl $
-        move ! (11 ∷ 12 ∷ []) $ free1 ! $ move ! (9 ∷ 10 ∷ []) $ free1 ! $ move ! (7 ∷ 8 ∷ []) $ free1 ! $ move ! (5 ∷ 6 ∷ []) $ free1 ! $ move ! (3 ∷ 4 ∷ []) $ free1 ! $ free0 ! $
-        keep ! (0 ∷ 1 ∷ 2 ∷ []) $ by ! (exits (r .answer) (r .row) (LL.owed E.the-type E′.the-laws r _ r-is .0) (ap (λ (s : RowEntered). s .answer) e, ap (λ (s : RowEntered). s .row) e)))))))))))))
+        returns ! (look ! 25 refl) $ forget ! 3 refl $ forget ! 5 refl $ forget ! 7 refl $ forget ! 9 refl $ forget ! 11 refl $ forget ! 13 refl $ forget ! 15 refl $ forget ! 17 refl $ forget ! 19 refl $ forget ! 21 refl $ forget ! 23 refl $ forget ! 25 refl $
+        move ! (25 ∷ 26 ∷ []) $ free1 ! $ move ! (23 ∷ 24 ∷ []) $ free1 ! $ move ! (21 ∷ 22 ∷ []) $ free1 ! $ move ! (19 ∷ 20 ∷ []) $ free1 ! $ move ! (17 ∷ 18 ∷ []) $ free1 ! $ move ! (15 ∷ 16 ∷ []) $ free1 ! $ move ! (13 ∷ 14 ∷ []) $ free1 ! $ move ! (11 ∷ 12 ∷ []) $ free1 ! $ move ! (9 ∷ 10 ∷ []) $ free1 ! $ move ! (7 ∷ 8 ∷ []) $ free1 ! $ move ! (5 ∷ 6 ∷ []) $ free1 ! $ move ! (3 ∷ 4 ∷ []) $ free1 ! $ free0 ! $
+        keep ! (0 ∷ 1 ∷ 2 ∷ []) $ by ! (exits (r .answer) (r .row) (LL.owed E.the-type E′.the-laws r _ r-is .0) (ap (λ (s : RowEntered). s .answer) e, ap (λ (s : RowEntered). s .row) e))))))))))))))))))))
 
 module _ {M : Type 1} (𝓤 : URA M) (H : Heap 𝓤) (A : Atoms 𝓤) (W : Given 𝓤 H A) (mem : Memory → SProp 𝓤) (run : Routine → Fun 𝓤) where
   walks : (C : Calls 𝓤 H) (Λ : Loops 𝓤 H) → FmC 𝓤 H (W .laws) C → Triple 𝓤 (C #callee) (Callee 𝓤 H A mem run) → Walks 𝓤 H A self.ended stayed (WpFn 𝓤 H C Λ code.function) (self.clauses 𝓤 H A mem run)

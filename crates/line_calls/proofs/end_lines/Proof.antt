@@ -1,5 +1,6 @@
 use mathlib.Core.Path.{sym}
 use borrow.Author.Needs.{needs}
+use Rattle.numbers.proofs.Reports.{filled-none}
 use Rattle.line_calls.proofs.end_lines.Statement.{statement}
 use Rattle.line_calls.proofs.end_lines.Tie as tie
 
@@ -16,7 +17,7 @@ same-length : tie.Need-same-length
 same-length c = search needs
 
 returns : tie.Need-returns
-returns c = rw (sym (c .before .before .before .before .end-lines .ensures), c .enum-told .given .1)
+returns c = rw (sym (c .before .before .before .before .end-lines .ensures), c .enum-told .given .1, filled-none)
 
 slice-aggregate-fill : tie.Need-slice-aggregate-fill
 slice-aggregate-fill c = search needs

@@ -1,6 +1,6 @@
 use native.Mathlib.Omega.{arith}
 use Rattle.lister.proofs.Parts.{line-inside}
-use Rattle.xdr.specs.Writes.{wrote}
+use Rattle.xdr.specs.Writes.{afterwards}
 use mathlib.Core.Path.{sym, ap, _∙_}
 use borrow.Author.Needs.{needs}
 use Rattle.lister.proofs.finish.Statement.{statement}
@@ -26,7 +26,7 @@ flush-requires c κs =
     let at-end-lines = c .before .before .before .before .before .before in
     let entry = at-end-lines .before .before .before in
     let e = at-end-lines .end-lines .last .0 in
-    let h = line-inside (entry .args .output .now) e _ _ _ (ap (λ x. wrote x e) (sym (c .before .before .n .given .1)) ∙ at-end-lines .end-lines .ensures) (search needs) in
+    let h = line-inside (entry .args .output .now) e _ _ _ (ap (λ x. afterwards x e) (sym (c .before .before .n .given .1)) ∙ at-end-lines .end-lines .ensures) (search needs) in
     omega arith
 
 same-length-2 : tie.Need-same-length-2

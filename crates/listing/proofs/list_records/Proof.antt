@@ -45,12 +45,15 @@ loop-again c =
     let at-loop = at-test .before in
     (search needs, sym (list-more _ _ _ _ _ _ (at-test .loop-test .taken) (at-step .step .ensures) (sym (c .before .is-over .ensures) ∙ c .if1 .left)) ∙ at-loop .loop .inv .1)
 
+stopped-requires : tie.Need-stopped-requires Inv-loop μ-loop
+stopped-requires c κs = search needs
+
 same-length-2 : tie.Need-same-length-2 Inv-loop μ-loop
 same-length-2 c = search needs
 
 returns-2 : tie.Need-returns-2 Inv-loop μ-loop
 unfolding listAll
-returns-2 c = sym (list-end _ _ _ _ (c .loop-test .left)) ∙ c .before .loop .inv .1
+returns-2 c = sym (list-end _ _ _ _ _ (c .before .loop-test .left) (c .stopped .ensures)) ∙ c .before .before .loop .inv .1
 
 pub list-records-spec : {M : Type 1} → statement M
 list-records-spec =
@@ -66,5 +69,6 @@ list-records-spec =
     sub-turns
     loop-less
     loop-again
+    stopped-requires
     same-length-2
     returns-2)

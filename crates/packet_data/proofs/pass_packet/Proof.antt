@@ -1,6 +1,6 @@
 use borrow.Author.Needs.{needs}
 use mathlib.Core.Path.{refl, sym, _∙_}
-use Rattle.fields.proofs.Forms.{passed-view, passed-run, passed-union-cut, passed-arm}
+use Rattle.fields.proofs.Forms.{passed-view, passed-words, passed-union-cut, passed-arm}
 use Rattle.packet_data.proofs.Ip.{packet-other}
 use Rattle.packet_data.proofs.pass_packet.Statement.{statement}
 use Rattle.packet_data.proofs.pass_packet.Tie as tie
@@ -20,17 +20,11 @@ returns c = sym (passed-union-cut _ _ _ _ _ _ (sym (c .before .before .read-word
 pass-header-requires : tie.Need-pass-header-requires
 pass-header-requires c κs = search needs
 
-slice-aggregate-pass-run : tie.Need-slice-aggregate-pass-run
-slice-aggregate-pass-run c = search needs
+pass-words-requires : tie.Need-pass-words-requires
+pass-words-requires c κs = search needs
 
-pass-run-requires : tie.Need-pass-run-requires
-pass-run-requires c κs = search needs
-
-slice-aggregate-pass-run-2 : tie.Need-slice-aggregate-pass-run-2
-slice-aggregate-pass-run-2 c = search needs
-
-pass-run-requires-2 : tie.Need-pass-run-requires-2
-pass-run-requires-2 c κs = search needs
+pass-ipv6-requires : tie.Need-pass-ipv6-requires
+pass-ipv6-requires c κs = search needs
 
 returns-2 : tie.Need-returns-2
 returns-2 c =
@@ -43,17 +37,17 @@ returns-3 : tie.Need-returns-3
 returns-3 c =
     sym
     (passed-arm _ _ _ _ _ _ _
-    (sym (c .before .before .before .before .before .before .read-word .ensures) ∙ c .before .before .before .before .kind .given .1) 2
-    (c .before .before .match2 .keys2) refl
-    ∙ passed-run _ _ _ _ _ refl (sym (c .pass-run .ensures)))
+    (sym (c .before .before .before .before .before .read-word .ensures) ∙ c .before .before .before .kind .given .1) 2
+    (c .before .match2 .keys2) refl
+    ∙ passed-words _ 8 _ _ (sym (c .pass-words .ensures)))
 
 returns-4 : tie.Need-returns-4
 returns-4 c =
     sym
     (passed-arm _ _ _ _ _ _ _
-    (sym (c .before .before .before .before .before .before .read-word .ensures) ∙ c .before .before .before .before .kind .given .1) 3
-    (c .before .before .match2 .keys3) refl
-    ∙ passed-run _ _ _ _ _ refl (sym (c .pass-run2 .ensures)))
+    (sym (c .before .before .before .before .before .read-word .ensures) ∙ c .before .before .before .kind .given .1) 3
+    (c .before .match2 .keys3) refl
+    ∙ sym (c .pass-ipv6 .ensures))
 
 returns-5 : tie.Need-returns-5
 returns-5 c =
@@ -71,10 +65,8 @@ pass-packet-spec =
     enum-told
     returns
     pass-header-requires
-    slice-aggregate-pass-run
-    pass-run-requires
-    slice-aggregate-pass-run-2
-    pass-run-requires-2
+    pass-words-requires
+    pass-ipv6-requires
     returns-2
     returns-3
     returns-4

@@ -1,5 +1,5 @@
-use Rattle.numbers.specs.Reports.{told}
 use mathlib.Core.Path.{ap, sym, _∙_}
+use Rattle.xdr.specs.Writes.{afterwards}
 use Rattle.read_calls.proofs.extended.Statement.{statement}
 use Rattle.read_calls.proofs.extended.Tie as tie
 
@@ -32,7 +32,7 @@ same-length-2 c = c .before .out2 .given
 returns-2 : tie.Need-returns-2
 returns-2 c = let at-x = c .before .before .before .before .before in
     rw (sym (at-x .before .before .read-extended .ensures)
-    ∙ at-x .x .given .1) (ap (told 0) (c .before .before .fill-extended .ensures))
+    ∙ at-x .x .given .1) (ap (afterwards 0) (c .before .before .fill-extended .ensures))
 
 pub extended-spec : {M : Type 1} → statement M
 extended-spec =

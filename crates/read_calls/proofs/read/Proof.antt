@@ -1,6 +1,6 @@
 use mathlib.Core.Path.{refl, ap, sym, _∙_}
 use mir.Facts.{fits-widen}
-use Rattle.numbers.specs.Reports.{told}
+use Rattle.xdr.specs.Writes.{afterwards}
 use Rattle.read_calls.proofs.read.Statement.{statement}
 use Rattle.read_calls.proofs.read.Tie as tie
 
@@ -61,7 +61,7 @@ returns-2 : tie.Need-returns-2
 returns-2 c = let at-h = c .before .before .before .before .before .before .before .before .before .before .before .before .before .before in
     rw (sym (at-h .before .before .read .ensures)
     ∙ at-h .h .given .1)
-    (ap (told 0) (c .before .before .fill .ensures))
+    (ap (afterwards 0) (c .before .before .fill .ensures))
 
 pub read-spec : {M : Type 1} → statement M
 read-spec =

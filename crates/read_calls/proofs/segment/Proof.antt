@@ -1,6 +1,6 @@
 use mathlib.Core.Path.{refl, ap, sym, _∙_}
 use mir.Facts.{fits-widen}
-use Rattle.numbers.specs.Reports.{told}
+use Rattle.xdr.specs.Writes.{afterwards}
 use Rattle.read_calls.proofs.segment.Statement.{statement}
 use Rattle.read_calls.proofs.segment.Tie as tie
 
@@ -43,7 +43,7 @@ returns-2 : tie.Need-returns-2
 returns-2 c = let at-x = c .before .before .before .before .before .before .before .before in
     rw (sym (at-x .before .before .read-segment .ensures)
     ∙ at-x .x .given .1)
-    (ap (told 0) (c .before .before .fill .ensures))
+    (ap (afterwards 0) (c .before .before .fill .ensures))
 
 pub segment-spec : {M : Type 1} → statement M
 segment-spec =

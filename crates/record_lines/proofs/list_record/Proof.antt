@@ -1,7 +1,6 @@
 use borrow.Author.Needs.{needs}
 use native.Mathlib.Omega.{arith}
 use mathlib.Core.Path.{sym, _∙_}
-use Rattle.record_lines.specs.Records.{headOf}
 use Rattle.record_lines.proofs.Puts.{then}
 use Rattle.record_lines.proofs.Records.{lists, lists-refused, no-room, no-room-at-all}
 use Rattle.record_lines.proofs.list_record.Statement.{statement}
@@ -41,7 +40,6 @@ cast-if3 : tie.Need-cast-if3
 cast-if3 c = search needs
 
 returns-3 : tie.Need-returns-3
-unfolding headOf
 returns-3 c = no-room _ _ _ _ _ (sym (c .before .before .before .before .read .ensures) ∙ c .before .before .head .given .1) (omega arith)
 
 agent-line-requires : tie.Need-agent-line-requires
@@ -54,7 +52,6 @@ same-length : tie.Need-same-length
 same-length c = search needs
 
 returns-4 : tie.Need-returns-4
-unfolding headOf
 returns-4 c =
     let at-refusal-number = c .before .before .before .before in
     let at-why = at-refusal-number .before .before in
@@ -66,7 +63,6 @@ same-length-2 : tie.Need-same-length-2
 same-length-2 c = search needs
 
 returns-5 : tie.Need-returns-5
-unfolding headOf
 returns-5 c =
     let at-agent-line = c .before .before .before .before .before .before in
     let at-head = at-agent-line .before .before .before .before in

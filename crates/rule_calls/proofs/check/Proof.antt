@@ -1,5 +1,5 @@
-use Rattle.numbers.specs.Reports.{told}
 use mathlib.Core.Path.{ap, sym, _∙_}
+use Rattle.xdr.specs.Writes.{afterwards}
 use Rattle.numbers.proofs.Reports.{telling}
 use borrow.Author.Needs.{needs}
 use Rattle.rule_calls.proofs.check.Statement.{statement}
@@ -34,7 +34,7 @@ same-length c = search needs
 
 returns : tie.Need-returns
 returns c = let at-enum-told = c .before .before .before .before .before in
-    rw (sym (at-enum-told .before .before .check .ensures) ∙ at-enum-told .enum-told .given .1) (ap (told 0) (c .before .before .fill .ensures))
+    rw (sym (at-enum-told .before .before .check .ensures) ∙ at-enum-told .enum-told .given .1) (ap (afterwards 0) (c .before .before .fill .ensures))
 
 same-length-2 : tie.Need-same-length-2
 same-length-2 c = search needs

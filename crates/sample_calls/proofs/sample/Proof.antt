@@ -1,7 +1,7 @@
+use Rattle.xdr.specs.Writes.{afterwards}
 use Rattle.sample_calls.proofs.CounterPlaces.{version-word}
 use Rattle.sflow.specs.Datagram.{sample-type}
 use Rattle.sflow.specs.Decode.{decode}
-use Rattle.numbers.specs.Reports.{told}
 use mathlib.Core.Path.{ap, sym, _∙_}
 use Rattle.sample_calls.proofs.sample.Statement.{statement}
 use Rattle.sample_calls.proofs.sample.Tie as tie
@@ -50,7 +50,7 @@ returns-2 c = rw (
   (let at-x = c .before .before .before .before .before .before .before .before in sym (at-x .before .before .read-sample .ensures) ∙ at-x .x .given .1),
   c .before .before .before .before .before .values .given .1,
 )
-    (ap (told 0) (c .before .before .fill-flow .ensures))
+    (ap (afterwards 0) (c .before .before .fill-flow .ensures))
 
 same-length-3 : tie.Need-same-length-3
 same-length-3 c = c .before .out3 .given
@@ -60,7 +60,7 @@ returns-3 c = rw (
   (let at-x = c .before .before .before .before .before .before .before .before in sym (at-x .before .before .read-sample .ensures) ∙ at-x .x .given .1),
   c .before .before .before .before .before .values2 .given .1,
 )
-    (ap (told 0) (c .before .before .fill-counters .ensures))
+    (ap (afterwards 0) (c .before .before .fill-counters .ensures))
 
 pub sample-spec : {M : Type 1} → statement M
 sample-spec =

@@ -1,5 +1,5 @@
+use Rattle.xdr.specs.Writes.{afterwards}
 use Rattle.write_reports.proofs.WriteReports.{refusal-told}
-use Rattle.numbers.specs.Reports.{told}
 use mathlib.Core.Path.{ap}
 use borrow.Author.Needs.{needs}
 use Rattle.write_reports.proofs.report.Statement.{statement}
@@ -25,7 +25,7 @@ same-length : tie.Need-same-length
 same-length c = search needs
 
 returns-2 : tie.Need-returns-2
-returns-2 c = rw (c .before .before .before .before .before .before .answer .given .1) (ap (told 0) (c .before .before .fill .ensures))
+returns-2 c = rw (c .before .before .before .before .before .before .answer .given .1) (ap (afterwards 0) (c .before .before .fill .ensures))
 
 pub report-spec : {M : Type 1} → statement M
 report-spec =

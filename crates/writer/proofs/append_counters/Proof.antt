@@ -1,6 +1,6 @@
-use Rattle.sflow.specs.Grammar.{encode}
+use Rattle.sflow.specs.Grammar.{encode, allows}
 use Rattle.sflow.specs.Datagram.{sample-type}
-use Rattle.sample_writer.specs.CounterValues.{countersAllowed, countersValue}
+use Rattle.sample_writer.specs.CounterValues.{countersValue}
 use mathlib.Core.Path.{sym, _∙_}
 use Rattle.writer.proofs.Appends.{so-far, room-fitting, room-appended, not-appended}
 use borrow.Author.Needs.{needs}
@@ -43,7 +43,9 @@ raise-count-requires c κs =
     let entry = at-slice-known .before in
     room-fitting _ _ _ _
     (so-far _ _ _ _ _ (λ i. at-slice-known .slice-known .given i .fits) (sym (at-check-so-far .check-so-far .ensures) ∙ at-at .at .given .1))
-    (countersAllowed (entry .args .version) (entry .args .numbers .now))
+    (allows sample-type
+    (countersValue (entry .args .sequence-number) (entry .args .source-id) (entry .args .sampling-interval) (entry .args .version)
+    (entry .args .numbers .now)))
     (encode sample-type
     (countersValue (entry .args .sequence-number) (entry .args .source-id) (entry .args .sampling-interval) (entry .args .version)
     (entry .args .numbers .now))) _ _ (at-write-counters .write-counters .ensures)

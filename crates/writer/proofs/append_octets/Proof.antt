@@ -1,5 +1,6 @@
 use Rattle.sflow.specs.Datagram.{sample-type}
-use Rattle.sample_writer.specs.FlowValues.{isOne}
+use Rattle.sflow.specs.Grammar.{allowsGiven, encodeGiven}
+use Rattle.sflow.specs.Decode.{valueIn}
 use mathlib.Core.Path.{sym, _∙_}
 use Rattle.writer.proofs.Appends.{so-far, room-fitting, room-appended, not-appended}
 use borrow.Author.Needs.{needs}
@@ -42,7 +43,7 @@ raise-count-requires c κs =
     let entry = at-slice-known .before in
     room-fitting _ _ _ _
     (so-far _ _ _ _ _ (λ i. at-slice-known .slice-known .given i .fits) (sym (at-check-so-far .check-so-far .ensures) ∙ at-at .at .given .1))
-    (isOne sample-type (entry .args .sample .now)) (entry .args .sample .now) _ _ (at-write-sample .write-sample .ensures)
+    (allowsGiven sample-type (valueIn sample-type (entry .args .sample .now))) (encodeGiven sample-type (valueIn sample-type (entry .args .sample .now))) _ _ (at-write-sample .write-sample .ensures)
 
 same-length : tie.Need-same-length
 same-length c = search needs

@@ -1,3 +1,4 @@
+use native.Mathlib.Omega.{arith}
 use Rattle.writer.proofs.Starts.{start-limit, start-ipv4, start-ipv6, start-other}
 use mathlib.Core.Path.{sym, _∙_}
 use borrow.Author.Needs.{needs}
@@ -18,10 +19,14 @@ same-length c = search needs
 
 returns : tie.Need-returns
 returns c =
+    let at-if2 = c .before .before .before .before .before in
+    let at-if1 = at-if2 .before .before in
+    let at-limit-allowed = at-if1 .before in
+    let entry = at-limit-allowed .before .before in
+    let agent = entry .good .1 .1 .0 in
     c .before .before .write-words .ensures
-    ∙ start-ipv4 _ _ _ _ _
-    (sym (c .before .before .before .before .before .before .before .before .limit-allowed .ensures)
-    ∙ c .before .before .before .before .before .before .before .if1 .taken) (c .before .before .before .before .before .if2 .taken)
+    ∙ start-ipv4 _ _ _ _ _ (sym (at-limit-allowed .limit-allowed .ensures) ∙ at-if1 .if1 .taken) (at-if2 .if2 .taken) (omega (arith, agent))
+    (record { a = omega (arith, agent); b = omega (arith, agent); c = omega (arith, agent); d = omega (arith, agent) }) (entry .fits .sequence-number .fits) (entry .fits .uptime .fits)
 
 slice-aggregate-write-words-2 : tie.Need-slice-aggregate-write-words-2
 slice-aggregate-write-words-2 c = search needs
@@ -34,11 +39,14 @@ same-length-2 c = search needs
 
 returns-2 : tie.Need-returns-2
 returns-2 c =
+    let at-if3 = c .before .before .before .before .before in
+    let at-if1 = at-if3 .before .before .before in
+    let at-limit-allowed = at-if1 .before in
+    let entry = at-limit-allowed .before .before in
+    let agent = entry .good .1 .1 .0 in
     c .before .before .write-words2 .ensures
-    ∙ start-ipv6 _ _ _ _ _
-    (sym (c .before .before .before .before .before .before .before .before .before .limit-allowed .ensures)
-    ∙ c .before .before .before .before .before .before .before .before .if1 .taken) (c .before .before .before .before .before .if3 .taken)
-    (search needs) (search needs) (search needs)
+    ∙ start-ipv6 _ _ _ _ _ (sym (at-limit-allowed .limit-allowed .ensures) ∙ at-if1 .if1 .taken) (at-if3 .if3 .taken) (omega (arith, agent))
+    (record { a = omega (arith, agent); b = omega (arith, agent); c = omega (arith, agent); d = omega (arith, agent) }) (entry .fits .sequence-number .fits) (entry .fits .uptime .fits)
 
 returns-3 : tie.Need-returns-3
 returns-3 c =

@@ -2,7 +2,7 @@ use borrow.Author.Needs.{needs}
 use mathlib.Core.Path.{refl, sym, _∙_}
 use Rattle.fields.specs.Addresses.{addressOf}
 use Rattle.fields.proofs.Addresses.{address-other}
-use Rattle.fields.proofs.Forms.{passed-view, passed-run, passed-union-cut, passed-arm}
+use Rattle.fields.proofs.Forms.{passed-view, passed-union-cut, passed-arm}
 use Rattle.fields.proofs.address.pass_address.Statement.{statement}
 use Rattle.fields.proofs.address.pass_address.Tie as tie
 
@@ -18,33 +18,27 @@ enum-told c = search needs
 returns : tie.Need-returns
 returns c = sym (passed-union-cut _ _ _ _ _ _ (sym (c .before .before .read-word .ensures) ∙ c .enum-told .given .1))
 
-slice-aggregate-pass-run : tie.Need-slice-aggregate-pass-run
-slice-aggregate-pass-run c = search needs
+pass-item-requires : tie.Need-pass-item-requires
+pass-item-requires c κs = search needs
 
-pass-run-requires : tie.Need-pass-run-requires
-pass-run-requires c κs = search needs
-
-slice-aggregate-pass-run-2 : tie.Need-slice-aggregate-pass-run-2
-slice-aggregate-pass-run-2 c = search needs
-
-pass-run-requires-2 : tie.Need-pass-run-requires-2
-pass-run-requires-2 c κs = search needs
+pass-item-requires-2 : tie.Need-pass-item-requires-2
+pass-item-requires-2 c κs = search needs
 
 returns-2 : tie.Need-returns-2
 returns-2 c =
     sym
     (passed-arm _ _ _ _ _ _ _
-    (sym (c .before .before .before .before .before .before .read-word .ensures) ∙ c .before .before .before .before .kind .given .1) 1
-    (c .before .before .match2 .keys1) refl
-    ∙ passed-run _ _ _ _ _ refl (sym (c .pass-run .ensures)))
+    (sym (c .before .before .before .before .before .read-word .ensures) ∙ c .before .before .before .kind .given .1) 1
+    (c .before .match2 .keys1) refl
+    ∙ sym (c .pass-item .ensures))
 
 returns-3 : tie.Need-returns-3
 returns-3 c =
     sym
     (passed-arm _ _ _ _ _ _ _
-    (sym (c .before .before .before .before .before .before .read-word .ensures) ∙ c .before .before .before .before .kind .given .1) 2
-    (c .before .before .match2 .keys2) refl
-    ∙ passed-run _ _ _ _ _ refl (sym (c .pass-run2 .ensures)))
+    (sym (c .before .before .before .before .before .read-word .ensures) ∙ c .before .before .before .kind .given .1) 2
+    (c .before .match2 .keys2) refl
+    ∙ sym (c .pass-item2 .ensures))
 
 returns-4 : tie.Need-returns-4
 returns-4 c =
@@ -61,10 +55,8 @@ pass-address-spec =
     enum-known-kind
     enum-told
     returns
-    slice-aggregate-pass-run
-    pass-run-requires
-    slice-aggregate-pass-run-2
-    pass-run-requires-2
+    pass-item-requires
+    pass-item-requires-2
     returns-2
     returns-3
     returns-4)

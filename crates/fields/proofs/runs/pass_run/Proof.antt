@@ -1,6 +1,6 @@
 use borrow.Author.Needs.{needs}
-use mathlib.Core.Path.{sym, ap, _∙_}
-use Rattle.fields.specs.Parts.{asRun}
+use mathlib.Core.Path.{sym, _∙_}
+use Rattle.fields.proofs.Forms.{passed-run, passed-run-cut}
 use Rattle.fields.proofs.runs.pass_run.Statement.{statement}
 use Rattle.fields.proofs.runs.pass_run.Tie as tie
 
@@ -14,10 +14,10 @@ enum-known-p : tie.Need-enum-known-p
 enum-known-p c = search needs
 
 returns : tie.Need-returns
-returns c = sym (ap asRun (sym (c .before .before .before .read-run .ensures) ∙ c .before .next .given .1))
+returns c = sym (passed-run _ _ _ _ (sym (c .before .before .before .read-run .ensures) ∙ c .before .next .given .1))
 
 returns-2 : tie.Need-returns-2
-returns-2 c = sym (ap asRun (sym (c .before .before .before .read-run .ensures) ∙ c .before .p .given .1))
+returns-2 c = sym (passed-run-cut _ _ _ _ (sym (c .before .before .before .read-run .ensures) ∙ c .before .p .given .1))
 
 pub pass-run-spec : {M : Type 1} → statement M
 pass-run-spec =

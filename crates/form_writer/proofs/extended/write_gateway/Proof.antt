@@ -1,12 +1,9 @@
 use borrow.Author.Needs.{needs}
-use Rattle.form_writer.proofs.Allowances.{first-fails, second-fails, both-hold, too-many, not-too-many, refused-value, allowed-value}
+use native.Mathlib.Omega.{arith}
 use mathlib.Core.Path.{sym, _∙_}
-use lib.ListN.{length}
-use Rattle.sflow.specs.Decode.{entries, decode}
 use Rattle.sflow.specs.Datagram.{as-path-type}
-use Rattle.form_writer.specs.Values.{areEntries}
-use Rattle.form_writer.proofs.Allowed.{ends-there, ends-elsewhere, ends-nowhere}
-use Rattle.form_writer.proofs.PathOctets.{path-fours, gateway-octets}
+use Rattle.form_writer.proofs.Allowed.{entries-there, entries-elsewhere, entries-nowhere}
+use Rattle.form_writer.proofs.Gateways.{no-path, gateway-refused, gateway-written}
 use Rattle.form_writer.proofs.extended.write_gateway.Statement.{statement}
 use Rattle.form_writer.proofs.extended.write_gateway.Tie as tie
 
@@ -22,37 +19,32 @@ enum-told c = search needs
 returns : tie.Need-returns
 returns c =
     let entry = c .before .before .before .before .before .before in
-    refused-value _ _ _
-    (first-fails _ _
-    (ends-nowhere (entries (decode as-path-type (entry .args .path .now)) (entry .args .count) 0) (length (entry .args .path .now)) _ _
-    (sym (c .before .before .pass-segments .ensures) ∙ c .enum-told .given .1)))
+    no-path (entry .args .router-as) (entry .args .src-as) (entry .args .src-peer-as) (entry .args .count) (entry .args .path .now) (entry .args .communities .now) (entry .args .localpref) _
+    (entries-nowhere as-path-type (entry .args .path .now) (entry .args .count) _ _
+    (sym (c .before .before .pass-segments .ensures) ∙ c .enum-told .given .1))
 
 returns-2 : tie.Need-returns-2
 returns-2 c =
     let at-pass-segments = c .before .before .before .before in
     let entry = at-pass-segments .before .before .before .before in
-    refused-value _ _ _
-    (first-fails _ _
-    (ends-elsewhere (entries (decode as-path-type (entry .args .path .now)) (entry .args .count) 0) (length (entry .args .path .now)) _
-    (sym (at-pass-segments .pass-segments .ensures) ∙ c .before .before .passed .given .1) (c .if1 .taken)))
+    no-path (entry .args .router-as) (entry .args .src-as) (entry .args .src-peer-as) (entry .args .count) (entry .args .path .now) (entry .args .communities .now) (entry .args .localpref) _
+    (entries-elsewhere as-path-type (entry .args .path .now) (entry .args .count) _
+    (sym (at-pass-segments .pass-segments .ensures) ∙ c .before .before .passed .given .1) (c .if1 .taken))
 
 returns-3 : tie.Need-returns-3
 returns-3 c =
-    let entry = c .before .before .before .before .before .before .before .before .before in
-    refused-value _ _ _
-    (second-fails (areEntries as-path-type (entry .args .count) (entry .args .path .now)) _ (too-many (entry .args .communities .now) (c .if2 .taken)))
+    let at-if1 = c .before in
+    let at-passed = at-if1 .before .before in
+    let at-pass-segments = at-passed .before .before in
+    let entry = at-pass-segments .before .before .before .before in
+    let path =
+    entries-there as-path-type (entry .args .path .now) (entry .args .count) _
+    (sym (at-pass-segments .pass-segments .ensures) ∙ at-passed .passed .given .1) (at-if1 .if1 .left) in
+    gateway-refused (entry .args .router-as) (entry .args .src-as) (entry .args .src-peer-as) (entry .args .count) (entry .args .path .now) (entry .args .communities .now) (entry .args .localpref) (path .0) _ (path .1)
+    (c .if2 .taken)
 
-array-read-t18 : tie.Need-array-read-t18
-array-read-t18 c = search needs
-
-array-read-t21 : tie.Need-array-read-t21
-array-read-t21 c = search needs
-
-array-read-t24 : tie.Need-array-read-t24
-array-read-t24 c = search needs
-
-cast-t24 : tie.Need-cast-t24
-cast-t24 c = search needs
+cast-t17 : tie.Need-cast-t17
+cast-t17 c = search needs
 
 slice-aggregate-write-parts : tie.Need-slice-aggregate-write-parts
 slice-aggregate-write-parts c = search needs
@@ -78,14 +70,14 @@ returns-4 c =
     let at-if1 = at-if2 .before in
     let at-passed = at-if1 .before .before in
     let at-pass-segments = at-passed .before .before in
+    let communities = at-pass-segments .before .shared-slice-known2 .given in
+    let octets = at-pass-segments .before .before .shared-slice-known .given in
     let entry = at-pass-segments .before .before .before .before in
-    let passed = sym (at-pass-segments .pass-segments .ensures) ∙ at-passed .passed .given .1 in
-    allowed-value _ _ _ _ _ _
-    (both-hold _ _
-    (ends-there (entries (decode as-path-type (entry .args .path .now)) (entry .args .count) 0) (length (entry .args .path .now)) _ passed
-    (at-if1 .if1 .left)) (not-too-many (entry .args .communities .now) (at-if2 .if2 .left)))
-    (gateway-octets (entry .args .t2) (entry .args .count) (entry .args .path .now) (entry .args .communities .now) (entry .args .localpref) (search needs)
-    (path-fours (entry .args .path .now) (entry .args .count) _ passed (at-if1 .if1 .left))) (c .before .before .write-parts .ensures)
+    let path =
+    entries-there as-path-type (entry .args .path .now) (entry .args .count) _
+    (sym (at-pass-segments .pass-segments .ensures) ∙ at-passed .passed .given .1) (at-if1 .if1 .left) in
+    gateway-written (entry .args .router-as) (entry .args .src-as) (entry .args .src-peer-as) (entry .args .count) (entry .args .path .now) (entry .args .communities .now) (entry .args .localpref) (path .0) _ _ _
+    (omega arith) (omega arith) (omega arith) (omega arith) (λ i. octets i .fits) (λ i. communities i .fits) (omega arith) (at-if2 .if2 .left) (path .1) (c .before .before .write-parts .ensures)
 
 pub write-gateway-spec : {M : Type 1} → statement M
 write-gateway-spec =
@@ -97,10 +89,7 @@ write-gateway-spec =
     returns
     returns-2
     returns-3
-    array-read-t18
-    array-read-t21
-    array-read-t24
-    cast-t24
+    cast-t17
     slice-aggregate-write-parts
     slice-aggregate-write-parts-2
     slice-aggregate-write-parts-3

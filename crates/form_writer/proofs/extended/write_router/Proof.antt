@@ -1,6 +1,7 @@
 use borrow.Author.Needs.{needs}
-use Rattle.form_writer.proofs.Allowances.{ipv4-allowed, ipv6-allowed, other-address, refused-value, allowed-value}
 use native.Mathlib.Omega.{arith}
+use Rattle.form_writer.proofs.Allowances.{not-allowed, value-written}
+use Rattle.form_writer.proofs.FormValues.{one-listed, two-listed, router-valid, router-other}
 use Rattle.form_writer.proofs.ExtendedOctets.{router-ipv4, router-ipv6}
 use Rattle.form_writer.proofs.extended.write_router.Statement.{statement}
 use Rattle.form_writer.proofs.extended.write_router.Tie as tie
@@ -16,11 +17,12 @@ same-length c = search needs
 
 returns : tie.Need-returns
 returns c =
-    allowed-value _ _ _ _ _ _
-    (ipv4-allowed (c .before .before .before .before .before .before .before .before .before .args .x .nexthop)
-    (c .before .before .before .before .before .if1 .taken))
-    (router-ipv4 (c .before .before .before .before .before .before .before .before .before .args .x)
-    (c .before .before .before .before .before .if1 .taken)) (c .before .before .write-words .ensures)
+    let at-if1 = c .before .before .before .before .before in
+    let x = at-if1 .before .before .before .before .args .x in
+    value-written _ _ _ _ _ _
+    (router-valid x (omega arith) (record { a = omega arith; b = omega arith; c = omega arith; d = omega arith })
+    (one-listed (x .nexthop .kind) (at-if1 .if1 .taken)) (omega arith) (omega arith)) (router-ipv4 x (at-if1 .if1 .taken))
+    (c .before .before .write-words .ensures)
 
 slice-aggregate-write-words-2 : tie.Need-slice-aggregate-write-words-2
 slice-aggregate-write-words-2 c = search needs
@@ -33,14 +35,17 @@ same-length-2 c = search needs
 
 returns-2 : tie.Need-returns-2
 returns-2 c =
-    allowed-value _ _ _ _ _ _
-    (ipv6-allowed (c .before .before .before .before .before .before .before .before .before .before .args .x .nexthop)
-    (c .before .before .before .before .before .before .if1 .left) (c .before .before .before .before .before .if2 .taken))
-    (router-ipv6 (c .before .before .before .before .before .before .before .before .before .before .args .x)
-    (c .before .before .before .before .before .if2 .taken) (omega arith) (omega arith) (omega arith)) (c .before .before .write-words2 .ensures)
+    let at-if2 = c .before .before .before .before .before in
+    let x = at-if2 .before .before .before .before .before .args .x in
+    value-written _ _ _ _ _ _
+    (router-valid x (omega arith) (record { a = omega arith; b = omega arith; c = omega arith; d = omega arith })
+    (two-listed (x .nexthop .kind) (at-if2 .if2 .taken)) (omega arith) (omega arith))
+    (router-ipv6 x (at-if2 .if2 .taken) (omega arith) (omega arith) (omega arith)) (c .before .before .write-words2 .ensures)
 
 returns-3 : tie.Need-returns-3
-returns-3 c = refused-value _ _ _ (other-address (c .before .before .before .before .before .args .x .nexthop) (c .before .if1 .left) (c .if2 .left))
+returns-3 c =
+    let x = c .before .before .before .before .before .args .x in
+    not-allowed _ _ _ (router-other x (c .before .if1 .left) (c .if2 .left))
 
 pub write-router-spec : {M : Type 1} → statement M
 write-router-spec =

@@ -1,5 +1,7 @@
 use borrow.Author.Needs.{needs}
-use Rattle.form_writer.proofs.Allowances.{same-octets}
+use native.Mathlib.Omega.{arith}
+use Rattle.form_writer.proofs.Allowances.{value-written}
+use Rattle.form_writer.proofs.FormValues.{switch-valid}
 use Rattle.form_writer.proofs.ExtendedOctets.{switch-octets}
 use Rattle.form_writer.proofs.extended.write_switch.Statement.{statement}
 use Rattle.form_writer.proofs.extended.write_switch.Tie as tie
@@ -14,7 +16,9 @@ same-length : tie.Need-same-length
 same-length c = search needs
 
 returns : tie.Need-returns
-returns c = same-octets _ _ _ _ _ (switch-octets _ _ _ _) (c .before .before .write-words .ensures)
+returns c =
+    value-written _ _ _ _ _ _ (switch-valid _ _ _ _ (omega arith) (omega arith) (omega arith) (omega arith)) (switch-octets _ _ _ _)
+    (c .before .before .write-words .ensures)
 
 pub write-switch-spec : {M : Type 1} → statement M
 write-switch-spec =

@@ -1,17 +1,15 @@
 use borrow.Author.Needs.{needs}
-use Rattle.form_writer.specs.Values.{countable}
-use Rattle.form_writer.proofs.Allowances.{first-fails, second-fails, both-hold, too-many, not-too-many, refused-value, allowed-value}
+use Rattle.form_writer.proofs.Allowances.{not-allowed, value-written}
+use Rattle.form_writer.proofs.FormValues.{source-long, destination-long, user-valid}
 use Rattle.form_writer.proofs.ExtendedOctets.{user-octets}
 use Rattle.form_writer.proofs.extended.write_user.Statement.{statement}
 use Rattle.form_writer.proofs.extended.write_user.Tie as tie
 
 returns : tie.Need-returns
-returns c = refused-value _ _ _ (first-fails _ _ (too-many (c .before .before .before .before .args .src-user .now) (c .if1 .taken)))
+returns c = not-allowed _ _ _ (source-long (c .before .before .before .before .args .src-user .now) (c .before .before .before .before .args .dst-user .now) (c .if1 .taken))
 
 returns-2 : tie.Need-returns-2
-returns-2 c =
-    let entry = c .before .before .before .before .before in
-    refused-value _ _ _ (second-fails (countable (entry .args .src-user .now)) _ (too-many (entry .args .dst-user .now) (c .if2 .taken)))
+returns-2 c = not-allowed _ _ _ (destination-long (c .before .before .before .before .before .args .src-user .now) (c .before .before .before .before .before .args .dst-user .now) (c .if2 .taken))
 
 cast-t10 : tie.Need-cast-t10
 cast-t10 c = search needs
@@ -41,9 +39,11 @@ returns-3 : tie.Need-returns-3
 returns-3 c =
     let at-if2 = c .before .before .before .before .before .before .before in
     let at-if1 = at-if2 .before in
+    let dst-octets = at-if1 .before .shared-slice-known2 .given in
+    let src-octets = at-if1 .before .before .shared-slice-known .given in
     let entry = at-if1 .before .before .before .before in
-    allowed-value _ _ _ _ _ _
-    (both-hold _ _ (not-too-many (entry .args .src-user .now) (at-if1 .if1 .left)) (not-too-many (entry .args .dst-user .now) (at-if2 .if2 .left)))
+    value-written _ _ _ _ _ _
+    (user-valid (entry .args .src-user .now) (entry .args .dst-user .now) (at-if1 .if1 .left) (at-if2 .if2 .left) (λ i. src-octets i .fits) (λ i. dst-octets i .fits))
     (user-octets (entry .args .src-user .now) (entry .args .dst-user .now)) (c .before .before .write-parts .ensures)
 
 pub write-user-spec : {M : Type 1} → statement M

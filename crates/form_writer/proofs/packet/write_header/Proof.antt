@@ -1,19 +1,19 @@
 use borrow.Author.Needs.{needs}
-use Rattle.sflow.specs.Grammar.{oneTo}
-use Rattle.form_writer.proofs.Allowances.{first-fails, second-fails, both-hold, below-one, above-most, from-one, refused-value, allowed-value}
-use borrow.Author.Tests.{le-leb, lt-leb}
+use native.Mathlib.Omega.{arith}
+use Rattle.form_writer.proofs.Allowances.{not-allowed, value-written}
+use Rattle.form_writer.proofs.FormValues.{header-low, header-high, header-long, header-valid}
 use Rattle.form_writer.proofs.PacketOctets.{header-octets}
 use Rattle.form_writer.proofs.packet.write_header.Statement.{statement}
 use Rattle.form_writer.proofs.packet.write_header.Tie as tie
 
 returns : tie.Need-returns
-returns c = refused-value _ _ _ (first-fails _ _ (below-one _ _ (c .if1 .taken)))
+returns c = not-allowed _ _ _ (header-low _ _ (c .before .before .before .args .header .now) (c .if1 .taken))
 
 returns-2 : tie.Need-returns-2
-returns-2 c = refused-value _ _ _ (first-fails _ _ (above-most _ _ (c .if2 .taken)))
+returns-2 c = not-allowed _ _ _ (header-high _ _ (c .before .before .before .before .args .header .now) (c .if2 .taken))
 
 returns-3 : tie.Need-returns-3
-returns-3 c = refused-value _ _ _ (second-fails (oneTo 13 (c .before .before .before .before .before .args .protocol)) _ (lt-leb _ _ (c .if3 .taken)))
+returns-3 c = not-allowed _ _ _ (header-long _ _ (c .before .before .before .before .before .args .header .now) (c .if3 .taken))
 
 cast-t11 : tie.Need-cast-t11
 cast-t11 c = search needs
@@ -41,7 +41,11 @@ returns-4 c =
     let at-if3 = c .before .before .before .before .before .before .before in
     let at-if2 = at-if3 .before in
     let at-if1 = at-if2 .before in
-    allowed-value _ _ _ _ _ _ (both-hold _ _ (from-one _ _ (at-if1 .if1 .left) (at-if2 .if2 .left)) (le-leb _ _ (at-if3 .if3 .left)))
+    let octets = at-if1 .before .shared-slice-known .given in
+    let entry = at-if1 .before .before .before in
+    value-written _ _ _ _ _ _
+    (header-valid (entry .args .protocol) (entry .args .frame-length) (entry .args .header .now)
+    (omega arith) (at-if1 .if1 .left) (at-if2 .if2 .left) (omega arith) (at-if3 .if3 .left) (λ i. octets i .fits))
     (header-octets _ _ _) (c .before .before .write-parts .ensures)
 
 pub write-header-spec : {M : Type 1} → statement M

@@ -1,6 +1,7 @@
 use borrow.Author.Needs.{needs}
-use Rattle.form_writer.proofs.Allowances.{same-octets}
 use native.Mathlib.Omega.{arith}
+use Rattle.form_writer.proofs.Allowances.{value-written}
+use Rattle.form_writer.proofs.FormValues.{ipv6-valid}
 use Rattle.form_writer.proofs.PacketOctets.{ipv6-octets}
 use Rattle.form_writer.proofs.packet.write_ipv6.Statement.{statement}
 use Rattle.form_writer.proofs.packet.write_ipv6.Tie as tie
@@ -16,7 +17,10 @@ same-length c = search needs
 
 returns : tie.Need-returns
 returns c =
-    same-octets _ _ _ _ _ (ipv6-octets _ _ _ _ _ _ _ _ _ _ _ _ _ _ (omega arith) (omega arith) (omega arith) (omega arith) (omega arith) (omega arith))
+    value-written _ _ _ _ _ _
+    (ipv6-valid _ _ _ _ _ _ _ _ (omega arith) (omega arith) (record { a = omega arith; b = omega arith; c = omega arith; d = omega arith })
+    (record { a = omega arith; b = omega arith; c = omega arith; d = omega arith }) (omega arith) (omega arith) (omega arith) (omega arith))
+    (ipv6-octets _ _ _ _ _ _ _ _ _ _ _ _ _ _ (omega arith) (omega arith) (omega arith) (omega arith) (omega arith) (omega arith))
     (c .before .before .write-words .ensures)
 
 pub write-ipv6-spec : {M : Type 1} → statement M

@@ -11,33 +11,32 @@ use Rattle.form_writer.proofs.parts.write_joined.Tie as tie
 mul-a : tie.Need-mul-a
 mul-a c = search needs
 
-mul-c : tie.Need-mul-c
-mul-c c = search needs
+add-b : tie.Need-add-b
+add-b c = search needs
+
+mul-b : tie.Need-mul-b
+mul-b c = search needs
 
 fits-requires : tie.Need-fits-requires
 fits-requires c κs = search needs
 
 put-words-requires : tie.Need-put-words-requires
 put-words-requires c κs =
-    let entry = c .before .before .before .before .before .before .before .before in
-    let a = entry .args in
-    let fit : joinedSize (a .head .now) (a .first .now) (a .middle .now) (a .second .now) + 0 + 0 ≤ length (a .d .now) = leb-true _ _ (sym (c .before .before .fits2 .ensures) ∙ c .before .if1 .taken) in
-    omega arith
-
-write-octets-requires : tie.Need-write-octets-requires
-write-octets-requires c κs = search needs
-
-add-put-words : tie.Need-add-put-words
-add-put-words c = search needs
-
-put-words-requires-2 : tie.Need-put-words-requires-2
-put-words-requires-2 c κs =
-    let at-if1 = c .before .before .before .before .before .before .before .before .before in
+    let at-if1 = c .before in
     let at-fits2 = at-if1 .before in
-    let entry = at-fits2 .before .before .before .before .before .before in
+    let entry = at-fits2 .before .before .before .before .before in
     let a = entry .args in
-    let fit : joinedSize (a .head .now) (a .first .now) (a .middle .now) (a .second .now) + 0 + 0 ≤ length (a .d .now) = leb-true _ _ (sym (at-fits2 .fits2 .ensures) ∙ at-if1 .if1 .taken) in
+    let fit : joinedSize (a .head .now) (a .string .now) (a .octets .now) + 0 + 0 ≤ length (a .d .now) = leb-true _ _ (sym (at-fits2 .fits2 .ensures) ∙ at-if1 .if1 .taken) in
     omega arith
+
+write-padded-requires : tie.Need-write-padded-requires
+write-padded-requires c κs = search needs
+
+add-write-word : tie.Need-add-write-word
+add-write-word c = search needs
+
+write-word-requires : tie.Need-write-word-requires
+write-word-requires c κs = search needs
 
 add-write-octets : tie.Need-add-write-octets
 add-write-octets c = search needs
@@ -46,33 +45,33 @@ add-write-octets-2 : tie.Need-add-write-octets-2
 add-write-octets-2 c =
     let at-if1 = c .before .before .before .before .before .before .before .before .before .before .before .before .before in
     let at-fits2 = at-if1 .before in
-    let entry = at-fits2 .before .before .before .before .before .before in
+    let entry = at-fits2 .before .before .before .before .before in
     let a = entry .args in
-    let fit : joinedSize (a .head .now) (a .first .now) (a .middle .now) (a .second .now) + 0 + 0 ≤ length (a .d .now) = leb-true _ _ (sym (at-fits2 .fits2 .ensures) ∙ at-if1 .if1 .taken) in
+    let fit : joinedSize (a .head .now) (a .string .now) (a .octets .now) + 0 + 0 ≤ length (a .d .now) = leb-true _ _ (sym (at-fits2 .fits2 .ensures) ∙ at-if1 .if1 .taken) in
     omega arith
 
-write-octets-requires-2 : tie.Need-write-octets-requires-2
-write-octets-requires-2 c κs = search needs
+write-octets-requires : tie.Need-write-octets-requires
+write-octets-requires c κs = search needs
 
-add-t20 : tie.Need-add-t20
-add-t20 c = search needs
-
-add-t23 : tie.Need-add-t23
-add-t23 c =
-    let at-if1 = c .before .before .before .before .before .before .before .before .before .before .before .before .before .before .before .before in
-    let at-fits2 = at-if1 .before in
-    let entry = at-fits2 .before .before .before .before .before .before in
-    let a = entry .args in
-    let fit : joinedSize (a .head .now) (a .first .now) (a .middle .now) (a .second .now) + 0 + 0 ≤ length (a .d .now) = leb-true _ _ (sym (at-fits2 .fits2 .ensures) ∙ at-if1 .if1 .taken) in
-    omega arith
+add-t21 : tie.Need-add-t21
+add-t21 c = search needs
 
 add-t24 : tie.Need-add-t24
 add-t24 c =
     let at-if1 = c .before .before .before .before .before .before .before .before .before .before .before .before .before .before .before .before in
     let at-fits2 = at-if1 .before in
-    let entry = at-fits2 .before .before .before .before .before .before in
+    let entry = at-fits2 .before .before .before .before .before in
     let a = entry .args in
-    let fit : joinedSize (a .head .now) (a .first .now) (a .middle .now) (a .second .now) + 0 + 0 ≤ length (a .d .now) = leb-true _ _ (sym (at-fits2 .fits2 .ensures) ∙ at-if1 .if1 .taken) in
+    let fit : joinedSize (a .head .now) (a .string .now) (a .octets .now) + 0 + 0 ≤ length (a .d .now) = leb-true _ _ (sym (at-fits2 .fits2 .ensures) ∙ at-if1 .if1 .taken) in
+    omega arith
+
+add-t25 : tie.Need-add-t25
+add-t25 c =
+    let at-if1 = c .before .before .before .before .before .before .before .before .before .before .before .before .before .before .before .before in
+    let at-fits2 = at-if1 .before in
+    let entry = at-fits2 .before .before .before .before .before in
+    let a = entry .args in
+    let fit : joinedSize (a .head .now) (a .string .now) (a .octets .now) + 0 + 0 ≤ length (a .d .now) = leb-true _ _ (sym (at-fits2 .fits2 .ensures) ∙ at-if1 .if1 .taken) in
     omega arith
 
 same-length : tie.Need-same-length
@@ -80,44 +79,41 @@ same-length c = search needs
 
 returns : tie.Need-returns
 returns c =
-    let at-put-words2 = c .before .before .before .before .before .before in
-    let at-write-octets = at-put-words2 .before .before .before .before in
-    let at-put-words = at-write-octets .before .before .before .before in
-    let at-if1 = at-put-words .before .before in
+    let at-if1 = c .before .before .before .before .before .before .before .before .before .before .before .before .before .before .before .before in
     let at-fits2 = at-if1 .before in
-    let entry = at-fits2 .before .before .before .before .before .before in
+    let entry = at-fits2 .before .before .before .before .before in
     let a = entry .args in
-    let fit : joinedSize (a .head .now) (a .first .now) (a .middle .now) (a .second .now) + 0 + 0 ≤ length (a .d .now) = leb-true _ _ (sym (at-fits2 .fits2 .ensures) ∙ at-if1 .if1 .taken) in
-    let all-fit : joinedSize (a .head .now) (a .first .now) (a .middle .now) (a .second .now) ≤ length (a .d .now) = omega arith in
-    alone-fits _ _ _ _ (joined-length (a .head .now) (a .first .now) (a .middle .now) (a .second .now)) all-fit
-    (joined-put _ (a .head .now) (a .first .now) (a .middle .now) (a .second .now) _ _ _ _ _ _ all-fit (at-put-words .put-words .ensures)
-    (at-write-octets .write-octets .ensures) (at-put-words2 .put-words2 .ensures) (c .before .before .write-octets2 .ensures))
+    let fit : joinedSize (a .head .now) (a .string .now) (a .octets .now) + 0 + 0 ≤ length (a .d .now) = leb-true _ _ (sym (at-fits2 .fits2 .ensures) ∙ at-if1 .if1 .taken) in
+    let all-fit : joinedSize (a .head .now) (a .string .now) (a .octets .now) ≤ length (a .d .now) = omega arith in
+    alone-fits _ _ _ _ (joined-length (a .head .now) (a .string .now) (a .count) (a .octets .now)) all-fit
+    (joined-put _ (a .head .now) (a .string .now) (a .count) (a .octets .now) _ _ _ _ _ _ _ all-fit (c .before .before .before .before .before .before .before .before .before .before .before .before .before .before .put-words .ensures)
+    (c .before .before .before .before .before .before .before .before .before .before .write-padded .ensures) (c .before .before .before .before .before .before .write-word .ensures) (c .before .before .write-octets .ensures))
 
 returns-2 : tie.Need-returns-2
 returns-2 c =
-    let entry = c .before .before .before .before .before .before .before in
-    let a = entry .args in
-    let short : length (a .d .now) < joinedSize (a .head .now) (a .first .now) (a .middle .now) (a .second .now) + 0 + 0 = leb-false _ _ (sym (c .before .fits2 .ensures) ∙ c .if1 .left) in
-    let all-short : length (a .d .now) < joinedSize (a .head .now) (a .first .now) (a .middle .now) (a .second .now) = omega arith in
-    alone-full _ _ _ (joined-length (a .head .now) (a .first .now) (a .middle .now) (a .second .now)) all-short
+    let a = c .before .before .before .before .before .before .args in
+    let short : length (a .d .now) < joinedSize (a .head .now) (a .string .now) (a .octets .now) + 0 + 0 = leb-false _ _ (sym (c .before .fits2 .ensures) ∙ c .if1 .left) in
+    let all-short : length (a .d .now) < joinedSize (a .head .now) (a .string .now) (a .octets .now) = omega arith in
+    alone-full _ _ _ (joined-length (a .head .now) (a .string .now) (a .count) (a .octets .now)) all-short
 
 pub write-joined-spec : {M : Type 1} → statement M
 write-joined-spec =
     tie.close
     (tie.spec
     mul-a
-    mul-c
+    add-b
+    mul-b
     fits-requires
     put-words-requires
-    write-octets-requires
-    add-put-words
-    put-words-requires-2
+    write-padded-requires
+    add-write-word
+    write-word-requires
     add-write-octets
     add-write-octets-2
-    write-octets-requires-2
-    add-t20
-    add-t23
+    write-octets-requires
+    add-t21
     add-t24
+    add-t25
     same-length
     returns
     returns-2)

@@ -1,14 +1,11 @@
 use borrow.Author.Needs.{needs}
-use mathlib.Core.Path.{refl, sym, _∙_}
-use Rattle.fields.proofs.Forms.{passed-run, passed-list, passed-list-cut, passed-then, passed-then-refused}
+use mathlib.Core.Path.{sym, _∙_}
+use Rattle.fields.proofs.Forms.{passed-words, passed-list, passed-list-cut, passed-then, passed-then-refused}
 use Rattle.reader.proofs.sample.pass_flow.Statement.{statement}
 use Rattle.reader.proofs.sample.pass_flow.Tie as tie
 
-slice-aggregate-pass-run : tie.Need-slice-aggregate-pass-run
-slice-aggregate-pass-run c = search needs
-
-pass-run-requires : tie.Need-pass-run-requires
-pass-run-requires c κs = search needs
+pass-words-requires : tie.Need-pass-words-requires
+pass-words-requires c κs = search needs
 
 enum-known-words : tie.Need-enum-known-words
 enum-known-words c = search needs
@@ -19,7 +16,7 @@ enum-told c = search needs
 returns : tie.Need-returns
 returns c =
     c .enum-told .given .1
-    ∙ sym (passed-then-refused _ _ _ _ _ _ (passed-run _ _ _ _ _ refl (sym (c .before .before .pass-run .ensures) ∙ c .enum-told .given .1)))
+    ∙ sym (passed-then-refused _ _ _ _ _ _ (passed-words _ 7 _ _ (sym (c .before .before .pass-words .ensures) ∙ c .enum-told .given .1)))
 
 pass-packet-requires : tie.Need-pass-packet-requires
 pass-packet-requires c κs = search needs
@@ -35,8 +32,8 @@ returns-2 c =
     c .enum-told2 .given .1
     ∙ sym
     (passed-then _ _ _ _ _
-    (passed-run _ _ _ _ _ refl
-    (sym (c .before .before .before .before .before .before .pass-run .ensures) ∙ c .before .before .before .before .words .given .1))
+    (passed-words _ 7 _ _
+    (sym (c .before .before .before .before .before .before .pass-words .ensures) ∙ c .before .before .before .before .words .given .1))
     ∙ passed-then-refused _ _ _ _ _ _ (sym (c .before .before .pass-packet .ensures) ∙ c .enum-told2 .given .1))
 
 read-word-requires : tie.Need-read-word-requires
@@ -53,9 +50,9 @@ returns-3 c =
     let at-packet = c .before .before .before .before in
     let at-pass-packet = at-packet .before .before in
     let at-words = at-pass-packet .before .before in
-    let at-pass-run = at-words .before .before in
+    let at-pass-words = at-words .before .before in
     sym
-    (passed-then _ _ _ _ _ (passed-run _ _ _ _ _ refl (sym (at-pass-run .pass-run .ensures) ∙ at-words .words .given .1))
+    (passed-then _ _ _ _ _ (passed-words _ 7 _ _ (sym (at-pass-words .pass-words .ensures) ∙ at-words .words .given .1))
     ∙ passed-then _ _ _ _ _ (sym (at-pass-packet .pass-packet .ensures) ∙ at-packet .packet .given .1)
     ∙ passed-list-cut _ _ _ _ (sym (c .before .before .read-word .ensures) ∙ c .enum-told3 .given .1))
 
@@ -68,10 +65,10 @@ returns-4 c =
     let at-packet = at-read-word .before .before in
     let at-pass-packet = at-packet .before .before in
     let at-words = at-pass-packet .before .before in
-    let at-pass-run = at-words .before .before in
+    let at-pass-words = at-words .before .before in
     c .pass-extended .ensures
     ∙ sym
-    (passed-then _ _ _ _ _ (passed-run _ _ _ _ _ refl (sym (at-pass-run .pass-run .ensures) ∙ at-words .words .given .1))
+    (passed-then _ _ _ _ _ (passed-words _ 7 _ _ (sym (at-pass-words .pass-words .ensures) ∙ at-words .words .given .1))
     ∙ passed-then _ _ _ _ _ (sym (at-pass-packet .pass-packet .ensures) ∙ at-packet .packet .given .1)
     ∙ passed-list _ _ _ _ _ (sym (at-read-word .read-word .ensures) ∙ c .before .before .count .given .1))
 
@@ -79,8 +76,7 @@ pub pass-flow-spec : {M : Type 1} → statement M
 pass-flow-spec =
     tie.close
     (tie.spec
-    slice-aggregate-pass-run
-    pass-run-requires
+    pass-words-requires
     enum-known-words
     enum-told
     returns

@@ -1,5 +1,5 @@
-use Rattle.sample_writer.specs.CounterValues.{WordOrHyper, fitEach}
-use Rattle.sflow.specs.Grammar.{Each}
+use Rattle.sample_writer.specs.CounterValues.{WordOrHyper}
+use Rattle.sflow.specs.Grammar.{Each, eachFits}
 use Prim.Native.Nat.{_≤_, _-_}
 use lib.ListN.{length, drop}
 use mathlib.Core.Path.{_≡_, refl, sym, _∙_}
@@ -10,13 +10,13 @@ use Rattle.sample_writer.proofs.counters.each_fits.Tie as tie
 
 -- The test of the numbers from the index on is the test of all. The measure is how many are left.
 abbrev Inv-loop : tie.InvT-loop
-Inv-loop widths numbers i₀ i = (i ≤ length widths) × Each WordOrHyper (drop i widths) × (fitEach (drop i widths) (drop i numbers) ≡ fitEach widths numbers)
+Inv-loop widths numbers i₀ i = (i ≤ length widths) × Each WordOrHyper (drop i widths) × (eachFits (drop i widths) (drop i numbers) ≡ eachFits widths numbers)
 
 abbrev μ-loop : tie.MeasureT-loop
 μ-loop widths numbers i₀ i = length widths - i
 
 returns : tie.Need-returns Inv-loop μ-loop
-returns c = other-length _ _ (c .if1 .taken)
+returns c = let entry = c .before .before .before in other-length (entry .args .widths .now) (entry .args .numbers .now) (c .if1 .taken)
 
 loop-holds : tie.Need-loop-holds Inv-loop μ-loop
 loop-holds c = (search needs, c .before .before .before .pre, refl)

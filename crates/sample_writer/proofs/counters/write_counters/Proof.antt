@@ -1,3 +1,4 @@
+use native.Mathlib.Omega.{arith}
 use mathlib.Core.Logic.{⊎-elim}
 use mathlib.Core.Path.{refl}
 use Rattle.counter_data.proofs.Bodies.{not-listed}
@@ -60,10 +61,10 @@ returns c =
     let at-match = at-write-numbers .before .before .before .before in
     let entry = at-match .before .before .before in
     ⊎-elim
-    (λ e. counters-arm _ _ (entry .args .sequence-number) (entry .args .source-id) (entry .args .sampling-interval) (entry .args .version) 1 (entry .args .numbers .now) _ e refl (at-write-numbers .write-numbers .ensures))
+    (λ e. counters-arm _ (entry .args .sequence-number) (entry .args .source-id) (entry .args .sampling-interval) (entry .args .version) (entry .args .numbers .now) (omega arith) (omega arith) (omega arith) (omega arith) 1 _ _ e refl (at-write-numbers .write-numbers .ensures))
     (⊎-elim
-    (λ e. counters-arm _ _ (entry .args .sequence-number) (entry .args .source-id) (entry .args .sampling-interval) (entry .args .version) 4 (entry .args .numbers .now) _ e refl (at-write-numbers .write-numbers .ensures))
-    (λ e. counters-arm _ _ (entry .args .sequence-number) (entry .args .source-id) (entry .args .sampling-interval) (entry .args .version) 6 (entry .args .numbers .now) _ e refl (at-write-numbers .write-numbers .ensures)))
+    (λ e. counters-arm _ (entry .args .sequence-number) (entry .args .source-id) (entry .args .sampling-interval) (entry .args .version) (entry .args .numbers .now) (omega arith) (omega arith) (omega arith) (omega arith) 4 _ _ e refl (at-write-numbers .write-numbers .ensures))
+    (λ e. counters-arm _ (entry .args .sequence-number) (entry .args .source-id) (entry .args .sampling-interval) (entry .args .version) (entry .args .numbers .now) (omega arith) (omega arith) (omega arith) (omega arith) 6 _ _ e refl (at-write-numbers .write-numbers .ensures)))
     (at-match .match .keys1)
 
 same-length-2 : tie.Need-same-length-2
@@ -73,8 +74,7 @@ returns-2 : tie.Need-returns-2
 returns-2 c =
     let at-match = c .before .before .before .before .before .before in
     let entry = at-match .before .before .before in
-    counters-arm _ _ (entry .args .sequence-number) (entry .args .source-id) (entry .args .sampling-interval) (entry .args .version) 2
-    (entry .args .numbers .now) _ (at-match .match .keys2) refl (c .before .before .write-numbers2 .ensures)
+    counters-arm _ (entry .args .sequence-number) (entry .args .source-id) (entry .args .sampling-interval) (entry .args .version) (entry .args .numbers .now) (omega arith) (omega arith) (omega arith) (omega arith) 2 _ _ (at-match .match .keys2) refl (c .before .before .write-numbers2 .ensures)
 
 same-length-3 : tie.Need-same-length-3
 same-length-3 c = search needs
@@ -83,8 +83,7 @@ returns-3 : tie.Need-returns-3
 returns-3 c =
     let at-match = c .before .before .before .before .before .before in
     let entry = at-match .before .before .before in
-    counters-arm _ _ (entry .args .sequence-number) (entry .args .source-id) (entry .args .sampling-interval) (entry .args .version) 3
-    (entry .args .numbers .now) _ (at-match .match .keys3) refl (c .before .before .write-numbers3 .ensures)
+    counters-arm _ (entry .args .sequence-number) (entry .args .source-id) (entry .args .sampling-interval) (entry .args .version) (entry .args .numbers .now) (omega arith) (omega arith) (omega arith) (omega arith) 3 _ _ (at-match .match .keys3) refl (c .before .before .write-numbers3 .ensures)
 
 same-length-4 : tie.Need-same-length-4
 same-length-4 c = search needs
@@ -93,8 +92,7 @@ returns-4 : tie.Need-returns-4
 returns-4 c =
     let at-match = c .before .before .before .before .before .before in
     let entry = at-match .before .before .before in
-    counters-arm _ _ (entry .args .sequence-number) (entry .args .source-id) (entry .args .sampling-interval) (entry .args .version) 5
-    (entry .args .numbers .now) _ (at-match .match .keys4) refl (c .before .before .write-numbers4 .ensures)
+    counters-arm _ (entry .args .sequence-number) (entry .args .source-id) (entry .args .sampling-interval) (entry .args .version) (entry .args .numbers .now) (omega arith) (omega arith) (omega arith) (omega arith) 5 _ _ (at-match .match .keys4) refl (c .before .before .write-numbers4 .ensures)
 
 same-length-5 : tie.Need-same-length-5
 same-length-5 c = search needs
@@ -103,15 +101,13 @@ returns-5 : tie.Need-returns-5
 returns-5 c =
     let at-match = c .before .before .before .before .before .before in
     let entry = at-match .before .before .before in
-    counters-arm _ _ (entry .args .sequence-number) (entry .args .source-id) (entry .args .sampling-interval) (entry .args .version) 7
-    (entry .args .numbers .now) _ (at-match .match .keys5) refl (c .before .before .write-numbers5 .ensures)
+    counters-arm _ (entry .args .sequence-number) (entry .args .source-id) (entry .args .sampling-interval) (entry .args .version) (entry .args .numbers .now) (omega arith) (omega arith) (omega arith) (omega arith) 7 _ _ (at-match .match .keys5) refl (c .before .before .write-numbers5 .ensures)
 
 returns-6 : tie.Need-returns-6
 returns-6 c =
     let entry = c .before .before .before in
     let r = c .match .rest in
-    counters-none _ (entry .args .sequence-number) (entry .args .source-id) (entry .args .sampling-interval) (entry .args .version)
-    (entry .args .numbers .now) (not-listed _ (r .0 .0 .0 .0 .1) (r .0 .0 .0 .1) (r .0 .0 .1) (r .0 .1) (r .1))
+    counters-none _ (entry .args .sequence-number) (entry .args .source-id) (entry .args .sampling-interval) (entry .args .version) (entry .args .numbers .now) (omega arith) (omega arith) (omega arith) (omega arith) (not-listed _ (r .0 .0 .0 .0 .1) (r .0 .0 .0 .1) (r .0 .0 .1) (r .0 .1) (r .1))
 
 pub write-counters-spec : {M : Type 1} → statement M
 write-counters-spec =

@@ -27,7 +27,7 @@ put-numbers-requires c κs =
     let at-each-fits = at-if1 .before in
     let entry = at-each-fits .before .before .before .before .before in
     let p = head-put _ (entry .args .head .now) _ _ (entry .pre .1) (omega arith) (at-write-words .write-words .ensures) in
-    (widths-are (entry .args .widths .now) (entry .pre .0), fits-told _ _ (sym (at-each-fits .each-fits .ensures) ∙ at-if1 .if1 .taken), omega (arith, p .long))
+    (widths-are (entry .args .widths .now) (entry .pre .0), fits-told (entry .args .widths .now) (entry .args .numbers .now) (sym (at-each-fits .each-fits .ensures) ∙ at-if1 .if1 .taken), omega (arith, p .long))
 
 same-length : tie.Need-same-length
 same-length c = search needs
