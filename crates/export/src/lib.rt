@@ -13,7 +13,7 @@ ghost use Rattle.listing.specs.Texts.{endLines};
 ghost use Rattle.numbers.specs.Addresses.{addressWith};
 ghost use Rattle.numbers.specs.Reports.{tell, handed};
 ghost use Rattle.read_calls.specs.Reading.{headReport, extendedReport, segmentReport};
-ghost use Rattle.reader.specs.Datagrams.{datagramOf, asHead};
+ghost use Rattle.reader.specs.Datagrams.{datagramRead};
 ghost use Rattle.reader.specs.Samples.{sampleOf, asSample};
 ghost use Rattle.rule_calls.specs.RuleSets.{checkReport, engineReport};
 ghost use Rattle.rules.specs.Checks.{check};
@@ -21,7 +21,6 @@ ghost use Rattle.sample_calls.specs.SampleReports.{sampleReport};
 ghost use Rattle.sample_writer.specs.CounterValues.{countersValue};
 ghost use Rattle.sflow.specs.Datagram.{as-path-type, extended-data-type, sample-type};
 ghost use Rattle.sflow.specs.Decode.{decode, mapped, valueIn};
-ghost use Rattle.sflow.specs.Reading.{readDatagram};
 ghost use Rattle.write_reports.specs.WriteReports.{handOver};
 ghost use Rattle.writer.specs.Datagrams.{started, appended};
 ghost use lib.Dec.{eqb};
@@ -33,7 +32,7 @@ ghost use mathlib.Core.Path.{_≡_};
 // `read_calls::read`.
 #[no_mangle]
 pub extern "C" fn sflow4_read(octets: &[u8], out: &mut [u64]) -> u32
-    ensures { λ r. ⌜ afterwards r (now (out .exit)) ≡ tell (headReport (asHead (mapped datagramOf (readDatagram (now (octets .entry)))))) (now (out .entry)) ⌝ }
+    ensures { λ r. ⌜ afterwards r (now (out .exit)) ≡ tell (headReport (datagramRead (now (octets .entry)))) (now (out .entry)) ⌝ }
 {
     read_calls::read(octets, out)
 }
