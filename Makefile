@@ -1,10 +1,11 @@
-.PHONY: help run test check wrong bench library
+.PHONY: help run test check wrong faults bench library
 
 help:
 	@echo "make run      build the lister and list a sample capture"
 	@echo "make test     prove everything from nothing, try the must-fail edits, run the programs and the tests (the gate)"
 	@echo "make check    prove what changed since it was last proved"
 	@echo "make wrong    try more wrong programs than the gate does; the prover has to refuse each"
+	@echo "make faults   put faults into copies of the second program; its tests or the differential tests have to fail for each (cargo)"
 	@echo "make library  the static library for C and Rust, target/staticlib/libexport.a"
 	@echo "make bench    measure the library against the second program (cargo), reader and lister against C (gcc); valgrind counts instructions"
 
@@ -28,6 +29,10 @@ check:
 wrong:
 	python3 wrong-programs/fit
 	python3 wrong-programs/try
+
+faults:
+	@test -f target/staticlib/libexport.a || rt staticlib export
+	python3 faults/try
 
 library:
 	rt staticlib export

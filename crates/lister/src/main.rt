@@ -7,9 +7,11 @@ use libc::STDOUT_FILENO;
 use listing::State;
 use listing::Stop;
 use xdr::Written;
-ghost use Prim.Native.Nat.{_≤_};
+ghost use Prim.Native.Nat.{_-_, _≤_};
 ghost use mathlib.Core.Path.{_≡_};
-ghost use lib.ListN.{length};
+ghost use lib.ListN.{length, take, drop};
+ghost use Rattle.xdr.specs.Writes.{stored};
+ghost use Rattle.lister.specs.Held.{roomForAny, isFull, isBad, Listed};
 
 // What was read: the end of the octets now held, which stays where the input has ended or a read failed.
 struct Filled {
@@ -82,49 +84,71 @@ fn flush(output: &[u8], n: usize) -> bool
     true
 }
 
-// Where listing stands: how many of the held octets are listed, what was counted, why it stopped, and whether the output failed.
+// Where listing stands: how many of the held octets are listed, what was counted, whether what is left is a bad record, and whether the output failed.
 struct Progress {
     listed: usize,
     state: State,
-    stop: Stop,
+    bad: bool,
     failed: bool,
+}
+
+// Whether listing stopped because the output was full.
+fn is_full(stop: Stop) -> bool
+    ensures { λ r. ⌜ r ≡ isFull stop ⌝ }
+{
+    match stop {
+        Stop::GoesOn => false,
+        Stop::NoRecord => false,
+        Stop::Output => true,
+        Stop::BadRecord => false,
+    }
+}
+
+// Whether it stopped at a bad record.
+fn is_bad(stop: Stop) -> bool
+    ensures { λ r. ⌜ r ≡ isBad stop ⌝ }
+{
+    match stop {
+        Stop::GoesOn => false,
+        Stop::NoRecord => false,
+        Stop::Output => false,
+        Stop::BadRecord => true,
+    }
 }
 
 // Lists all whole records held and writes their lines.
 fn list_held(output: &mut [u8], s: &[u8], begin: State) -> Progress
-    ensures { λ r. ⌜ r .listed ≤ length (now (s .entry)) ⌝ }
+    requires { ⌜ roomForAny ≤ length (now output) ⌝ }
+    ensures { λ r. ⌜ Listed begin (now (s .entry)) r ⌝ }
 {
     let mut listed = 0;
     let mut state = begin;
-    let mut turns = s.len();
-    while 0 < turns {
+    while listed < s.len() {
         let p = listing::list_records(output, &s[listed..], state);
         listed += p.at;
         state = p.state;
-        let stop = p.stop;
         if !flush(output, p.out) {
             return Progress {
                 listed,
                 state,
-                stop,
+                bad: false,
                 failed: true,
             };
         }
-        match stop {
-            Stop::Output => {}
-            _ => return Progress {
+        let stop = p.stop;
+        if !is_full(stop) {
+            return Progress {
                 listed,
                 state,
-                stop,
+                bad: is_bad(stop),
                 failed: false,
-            },
+            };
         }
-        turns -= 1;
     }
     Progress {
         listed,
         state,
-        stop: Stop::NoRecord,
+        bad: false,
         failed: false,
     }
 }
@@ -132,26 +156,30 @@ fn list_held(output: &mut [u8], s: &[u8], begin: State) -> Progress
 // Moves the octets between two offsets to the front, where they do not stand there already.
 fn shift(input: &mut [u8], from: usize, end: usize)
     requires { ⌜ (from ≤ end) × (end ≤ length (now input)) ⌝ }
+    ensures { λ r. ⌜ now (input .exit) ≡ stored (now (input .entry)) 0 (take (end - from) (drop from (now (input .entry)))) ⌝ }
 {
     if from == 0 {
         return;
     }
+    let n = end - from;
     let mut i = 0;
-    while i < end - from {
+    while i < n {
         input[i] = input[from + i];
         i += 1;
     }
 }
 
-// Writes what follows the last record.
-fn finish(output: &mut [u8], state: State, bad: bool) {
-    let Written::WrittenTo(n) = listing::end_lines(output, 0, state, bad) else {
+// Writes what follows the last record, in front of the octets that are left.
+fn finish(output: &mut [u8], state: State, rest: &[u8]) {
+    let Written::WrittenTo(n) = listing::end_text(output, 0, state, rest) else {
         return;
     };
     flush(output, n);
 }
 
-fn list_input(input: &mut [u8], output: &mut [u8]) {
+fn list_input(input: &mut [u8], output: &mut [u8])
+    requires { ⌜ roomForAny ≤ length (now output) ⌝ }
+{
     let mut state = State {
         offset: 0,
         records: 0,
@@ -168,24 +196,21 @@ fn list_input(input: &mut [u8], output: &mut [u8]) {
         }
         let end = filled.end;
         if end == held {
-            finish(output, state, 0 < held);
+            finish(output, state, &input[..held]);
             return;
         }
         let p = list_held(output, &input[..end], state);
+        let listed = p.listed;
         state = p.state;
         if p.failed {
             return;
         }
-        let stop = p.stop;
-        match stop {
-            Stop::BadRecord => {
-                finish(output, state, true);
-                return;
-            }
-            _ => {}
+        if p.bad {
+            finish(output, state, &input[listed..end]);
+            return;
         }
-        shift(input, p.listed, end);
-        held = end - p.listed;
+        shift(input, listed, end);
+        held = end - listed;
         turns -= 1;
     }
 }

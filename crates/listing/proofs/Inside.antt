@@ -1,7 +1,8 @@
--- The place that listing comes to lies inside the buffer and the output. Assumes nothing.
-use Prim.Native.Nat.{ℕ, zero, suc, _+_, _-_, _≤_}
+-- The place that listing comes to lies inside the buffer and the output; where it moves in neither, nothing was listed. Assumes nothing.
+use Prim.Native.Nat.{ℕ, zero, suc, _+_, _-_, _≤_, _<_}
 use native.Mathlib.Omega.{arith}
-use mathlib.Core.Path.{_≡_, refl, sym, ap, subst}
+use mathlib.Core.Path.{_≡_, refl, sym, ap, _∙_, subst}
+use mathlib.Core.Logic.{_⊎_, inl, inr}
 use mathlib.Core.Bool.{Bool, true, false, cond}
 use mathlib.Core.List.{List, _++_}
 use lib.ListN.{length, drop, length-append}
@@ -69,3 +70,46 @@ written-inside d s t q e h k =
     let i = a .out-is in
     let j = stored-inside d e (a .text) (a .octets-are) k in
     omega arith
+
+-- ---- from one place on
+
+-- behind a place of the buffer, or at the same place of buffer and output
+abbrev Onward : Place → Afterwards Place → Type 0
+Onward p (afterwards q e) = (p .at < q .at) ⊎ ((q .at ≡ p .at) × (q .out ≡ p .out))
+
+step-onward : (d s : List ℕ) (p : Place) → Onward p (listStep d s p)
+unfolding listStep
+step-onward d s p = on-frame (frameOf (drop (p .at) s))
+  where
+    on-listing : (n : ℕ) (l : Afterwards Listed) → Onward p (onListing p (4 + n) l)
+    on-listing n (afterwards NoRoom e) = inr (refl, refl)
+    on-listing n (afterwards (Refused out) e) = inl (omega arith)
+    on-listing n (afterwards (Accepted out count) e) = inl (omega arith)
+
+    on-frame : (f : Frame) → Onward p (onFrame d (drop (p .at) s) p f)
+    on-frame Short = inr (refl, refl)
+    on-frame Wrong = inr (refl, refl)
+    on-frame (Whole n) = on-listing n (listRecord d (p .out) (more (p .state .records) 1) (datagramIn (drop (p .at) s) n))
+
+from-onward : (n : ℕ) (d s : List ℕ) (p : Place) → Onward p (listFrom n d s p)
+unfolding listFrom
+from-onward zero d s p = inr (refl, refl)
+from-onward (suc n) d s p = go (listStep d s p) (step-onward d s p) λ e q. from-onward n e s q
+  where
+    chain : (q : Place) (e : List ℕ) (w : Afterwards Place) → Onward p (afterwards q e) → Onward q w → Onward p w
+    chain q e (afterwards r g) (inl a) (inl b) = inl (omega (arith, a, b))
+    chain q e (afterwards r g) (inl a) (inr b) = inl (omega (arith, a, b .0))
+    chain q e (afterwards r g) (inr a) (inl b) = inl (omega (arith, a .0, b))
+    chain q e (afterwards r g) (inr a) (inr b) = inr (b .0 ∙ a .0, b .1 ∙ a .1)
+
+    on : (q : Place) (e : List ℕ) (b : Bool) → Onward p (afterwards q e) → Onward q (listFrom n e s q) → Onward p (cond b (afterwards q e) (listFrom n e s q))
+    on q e true k r = k
+    on q e false k r = chain q e (listFrom n e s q) k r
+
+    go : (w : Afterwards Place) → Onward p w → ((e : List ℕ) (q : Place) → Onward q (listFrom n e s q)) → Onward p (goOn w λ e q. listFrom n e s q)
+    go (afterwards q e) k r = on q e (isOver (q .stop)) k (r e q)
+
+-- some octets are listed, or none and nothing is written
+pub some-or-nothing : (d s : List ℕ) (t : State) (q : Place) (e : List ℕ) → afterwards q e ≡ listAll d s t → (0 < q .at) ⊎ ((q .at ≡ 0) × (q .out ≡ 0))
+unfolding listAll
+some-or-nothing d s t q e h = subst (Onward (begins t)) (sym h) (from-onward (length s) d s (begins t))

@@ -7,8 +7,8 @@ use mathlib.Core.Bool.{Bool, true, false, cond}
 use mathlib.Core.List.{List, [], _∷_, _++_, append-assoc}
 use lib.ListN.{length, take, drop, length-append, length-drop, drop-of-length-le}
 use lib.Seq.{take-all, take-at, drop-at, drop-drop}
-use lib.Dec.{leb}
-use borrow.Author.Tests.{le-leb, le-ltb, leb-true, leb-false}
+use lib.Dec.{leb, ltb}
+use borrow.Author.Tests.{le-leb, le-ltb, lt-ltb, leb-true, leb-false}
 use Rattle.reader.specs.Datagrams.{datagramRead}
 use Rattle.xdr.specs.Writes.{stored, Afterwards, afterwards}
 use Rattle.xdr.proofs.Writing.{stored-front, stored-back}
@@ -17,7 +17,7 @@ use Rattle.reader.specs.declared.datagram.HeadRead.the-variants.{Found, Refused
 use Rattle.record_lines.specs.Records.{recordLines, roomOf, answerTo, listRecord}
 use Rattle.listing.specs.Captures.{frameOf, datagramIn, more, behind, stoppedAs, onFrame, onListing, goOn}
 use Rattle.listing.specs.Captures.{listStep, isOver, listFrom, listAll, begins}
-use Rattle.listing.specs.Texts.{countedAs, behindRecord, recordText, onRecord, textWithin, textFrom, recordWith, captureOf, textsOf, behindAll}
+use Rattle.listing.specs.Texts.{endLines, endText, countedAs, behindRecord, recordText, onRecord, textWithin, textFrom, recordWith, captureOf, textsOf, behindAll}
 use Rattle.record_lines.specs.declared.Listed.the-variants.{NoRoom}
 use Rattle.listing.specs.declared.Frame.{Frame}
 use Rattle.listing.specs.declared.Frame.the-variants.{Whole, Short, Wrong}
@@ -203,3 +203,10 @@ list-told (suc n) d s p = go (listStep d s p) (step-told d s p) λ e q. list-tol
 pub list-all-told : (d s : List ℕ) (t : State) → Told d s (begins t) (listAll d s t)
 unfolding listAll
 list-all-told d s t = list-told (length s) d s (begins t)
+
+-- ---- what follows the last record
+
+-- the capture goes wrong exactly where octets are left
+pub end-text-is : (t : State) (s : List ℕ) → endText t s ≡ endLines t (ltb 0 (length s))
+end-text-is t [] = refl
+end-text-is t (x ∷ s) = let h : 0 < suc (length s) = omega arith in ap (endLines t) (sym (lt-ltb 0 (suc (length s)) h))

@@ -9,7 +9,7 @@ ghost use Rattle.record_lines.specs.Lines.{writeLine};
 ghost use Rattle.record_lines.specs.Records.{listRecord};
 ghost use Rattle.listing.specs.declared.Frame.the-variants.{Whole};
 ghost use Rattle.listing.specs.Captures.{frameOf, countAccepted, countRefused, stoppedAs, listStep, isOver, listAll};
-ghost use Rattle.listing.specs.Texts.{endLines};
+ghost use Rattle.listing.specs.Texts.{endLines, endText};
 
 // What a part of a capture begins with.
 pub enum Frame {
@@ -198,4 +198,11 @@ pub fn end_lines(d: &mut [u8], at: usize, t: State, bad: bool) -> Written
     ensures { λ r. ⌜ afterwards r (now (d .exit)) ≡ writeLine 123 (now (d .entry)) at (endLines t bad) ⌝ }
 {
     record_lines::closing_lines(d, at, bad, t.offset, t.records, t.refused, t.samples)
+}
+
+// The same where listing stops in front of these octets: none are left at the end of a capture; where some are, the capture goes wrong there.
+pub fn end_text(d: &mut [u8], at: usize, t: State, rest: &[u8]) -> Written
+    ensures { λ r. ⌜ afterwards r (now (d .exit)) ≡ writeLine 123 (now (d .entry)) at (endText t (now (rest .entry))) ⌝ }
+{
+    end_lines(d, at, t, 0 < rest.len())
 }

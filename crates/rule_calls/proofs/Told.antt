@@ -4,7 +4,7 @@ use native.Mathlib.Omega.{arith}
 use mathlib.Core.Path.{_≡_, refl, ap, sym, _∙_}
 use mathlib.Core.Logic.{_⊎_, inl, inr, _↔_}
 use mathlib.Core.List.{List, [], _∷_, _++_}
-use mathlib.Core.Bool.{true, false, cond}
+use mathlib.Core.Bool.{true, false, true≢false, cond}
 use lib.ListN.{length, getD, replicate}
 use lib.Dec.{eqb}
 use Rattle.rules.specs.declared.CheckRefusal.{CheckRefusal}
@@ -17,10 +17,10 @@ use Rattle.rules.specs.declared.CheckAnswer.the-variants.{Accepted, Refused}
 use Rattle.rules.specs.Opcodes.{machineNumber}
 use Rattle.rules.specs.Records.{ruleCount, ruleOf}
 use Rattle.rules.specs.Machine.{Outcome, running, ended, stuck, after}
-use Rattle.rules.specs.Checks.{checkNumber, badLength, check, FirstToBreak}
+use Rattle.rules.specs.Checks.{checkNumber, badLength, check, breaks, FirstToBreak}
 use Rattle.rules.specs.Demand.{bound}
 use Rattle.rules.proofs.Answers.{no-items}
-use Rattle.rules.proofs.CheckAnswers.{never-length, check-accepts-exactly, check-refuses-exactly}
+use Rattle.rules.proofs.CheckAnswers.{check-accepts-exactly, check-refuses-exactly}
 use Rattle.reader.specs.declared.sample.FlowSample.{FlowSample}
 use Rattle.packet.specs.Attributes.{attributesOf, attribute}
 use Rattle.engine.specs.declared.FlowKey.{FlowKey}
@@ -106,7 +106,7 @@ module _ (s : List ℕ) where
     where
       go : Given why i → badLength (length s) ≡ true
       go (inl h) = h .0
-      go (inr h) = absurd (never-length s i (h .1 .breaks ∙ ap Breaks (thirty why n)))
+      go (inr h) = absurd (true≢false (sym (h .1 .lowest .broken) ∙ ap (breaks s i) (thirty why n)))
 
   told-of-check : CheckTold s (checkReport (check s))
   told-of-check =

@@ -1,25 +1,23 @@
 -- Exactly when the check accepts a rule set, and when it refuses it and names a rule. Assumes nothing.
 use Prim.Native.Nat.{ℕ, zero, suc, _%_, _≤_, _<_}
 use native.Mathlib.Omega.{arith}
-use mathlib.Core.Path.{_≡_, refl, ap, sym, _∙_, subst}
+use mathlib.Core.Path.{_≡_, refl, ap, sym, _∙_}
 use mathlib.Core.Logic.{_⊎_, inl, inr, _≢_, _↔_}
 use mathlib.Core.List.{List}
-use mathlib.Core.Bool.{Bool, true, false, not, cond, _&&_, _||_}
+use mathlib.Core.Bool.{Bool, true, false, not, cond, _||_}
 use lib.ListN.{length}
 use lib.Dec.{ltb, leb, eqb}
 use borrow.Author.Tests.{leb-true, leb-false, eqb-true, eqb-false, ltb-true, eq-eqb, ne-eqb, lt-ltb}
-use Rattle.rules.specs.declared.Rule.{Rule}
-use Rattle.rules.specs.declared.Declared.{Declared}
 use Rattle.rules.specs.declared.RuleCheck.{RuleCheck}
 use Rattle.rules.specs.declared.RuleCheck.the-variants.{Fine, Breaks}
 use Rattle.rules.specs.declared.CheckRefusal.{CheckRefusal}
-use Rattle.rules.specs.declared.CheckRefusal.the-variants.{Length, Mark, Attribute, Opcode, Limits, FirstRule, ReturnInMain, Target, Queue, Successor}
+use Rattle.rules.specs.declared.CheckRefusal.the-variants.{Length}
 use Rattle.rules.specs.declared.CheckAnswer.{CheckAnswer}
 use Rattle.rules.specs.declared.CheckAnswer.the-variants.{Accepted, Refused}
-use Rattle.rules.specs.Opcodes.{actionOf, isReturn}
-use Rattle.rules.specs.Records.{ruleCount, recordOf, ruleOf, declaredOf}
-use Rattle.rules.specs.Checks.{orBreaks, unlessBroken, known, badOpcode, formOf, differs, badTarget, aloneOf, badQueue, returnsNowhere, nextDiffers, targetDiffers, returnDiffers, restOf, ruleCheck, named, orAnswer, firstBroken, badLength, check, FirstToBreak, AllFine}
+use Rattle.rules.specs.Records.{ruleCount}
+use Rattle.rules.specs.Checks.{ruleCheck, named, orAnswer, firstBroken, badLength, check, FirstToBreak, AllFine}
 use Rattle.rules.proofs.Accepted.{all-fine}
+use Rattle.rules.proofs.LowestNumber.{lowest-exactly, fine-exactly}
 
 -- ---- what a refusal holds
 
@@ -82,62 +80,6 @@ module _ (f : ℕ → RuleCheck) where
           let b : f (suc k) ≡ Breaks why = rw l at (h .2) in
           rw (a, b, l)
 
--- ---- a rule is never refused for the length
-
-abbrev ForRule : RuleCheck → Type 0
-ForRule Fine = Unit {0}
-ForRule (Breaks Length) = ⊥
-ForRule (Breaks Mark) = Unit {0}
-ForRule (Breaks Attribute) = Unit {0}
-ForRule (Breaks Opcode) = Unit {0}
-ForRule (Breaks Limits) = Unit {0}
-ForRule (Breaks FirstRule) = Unit {0}
-ForRule (Breaks ReturnInMain) = Unit {0}
-ForRule (Breaks Target) = Unit {0}
-ForRule (Breaks Queue) = Unit {0}
-ForRule (Breaks Successor) = Unit {0}
-
-either : (b : Bool) (why : CheckRefusal) (next : RuleCheck) → ForRule (Breaks why) → ForRule next → ForRule (orBreaks b why next)
-either true why next p q = p
-either false why next p q = q
-
-both : (a b : RuleCheck) → ForRule a → ForRule b → ForRule (unlessBroken a b)
-both Fine b p q = q
-both (Breaks why) b p q = p
-
-form-rule : (mark attribute opcode : ℕ) → ForRule (formOf mark attribute opcode)
-unfolding formOf
-form-rule mark attribute opcode =
-    either (not (eqb mark 21109)) Mark _ tt (either (not (known attribute)) Attribute _ tt (either (badOpcode opcode) Opcode Fine tt tt))
-
-alone-rule : (n i : ℕ) (r : Rule) (w : Declared) → ForRule (aloneOf n i r w)
-unfolding aloneOf
-alone-rule n i r w =
-    either (ltb 4 (w .depth) || ltb 16 (w .held)) Limits _ tt
-    (either (eqb i 1 && differs w 0 0 0) FirstRule _ tt
-    (either (isReturn (actionOf (r .opcode)) && eqb (w .home) 0) ReturnInMain _ tt
-    (either (badTarget (actionOf (r .opcode)) n i (r .parameter)) Target Fine tt tt)))
-
-rest-rule : (n : ℕ) (rule : ℕ → Rule) (declared : ℕ → Declared) (i : ℕ) (r : Rule) (w : Declared) → ForRule (restOf n rule declared i r w)
-unfolding restOf
-rest-rule n rule declared i r w =
-    either (badQueue (actionOf (r .opcode)) (w .held)) Queue _ tt
-    (either (nextDiffers n rule declared i r w || targetDiffers n rule declared r w || returnDiffers n rule declared r w) Successor Fine tt tt)
-
-for-rule : (s : List ℕ) (i : ℕ) → ForRule (ruleCheck s i)
-unfolding ruleCheck
-for-rule s i =
-    let form : RuleCheck = formOf (recordOf s i .mark) (ruleOf s i .attribute) (ruleOf s i .opcode) in
-    let alone : RuleCheck = aloneOf (ruleCount s) i (ruleOf s i) (declaredOf s i) in
-    let nowhere : Bool = returnsNowhere (ruleCount s) (ruleOf s) (declaredOf s) (ruleOf s i) (declaredOf s i) in
-    let rest : RuleCheck = restOf (ruleCount s) (ruleOf s) (declaredOf s) i (ruleOf s i) (declaredOf s i) in
-    both form (unlessBroken alone (orBreaks nowhere Target rest)) (form-rule (recordOf s i .mark) (ruleOf s i .attribute) (ruleOf s i .opcode))
-    (both alone (orBreaks nowhere Target rest) (alone-rule (ruleCount s) i (ruleOf s i) (declaredOf s i))
-    (either nowhere Target rest tt (rest-rule (ruleCount s) (ruleOf s) (declaredOf s) i (ruleOf s i) (declaredOf s i))))
-
-pub never-length : (s : List ℕ) (i : ℕ) → ruleCheck s i ≡ Breaks Length → ⊥
-never-length s i e = subst ForRule e (for-rule s i)
-
 -- ---- the check
 
 module _ (s : List ℕ) where
@@ -162,12 +104,13 @@ module _ (s : List ℕ) where
 
   pub check-accepts-exactly : (check s ≡ Accepted) ↔ ((badLength (length s) ≡ false) × AllFine s)
   unfolding check
-  check-accepts-exactly = (to (badLength (length s)) refl, λ h. rw (h .0) (all-accepted (ruleCheck s) (ruleCount s) (h .1)))
+  check-accepts-exactly =
+      (to (badLength (length s)) refl, λ h. rw (h .0) (all-accepted (ruleCheck s) (ruleCount s) λ i low high. fine-exactly s i .1 (h .1 i low high)))
     where
       to : (b : Bool) → badLength (length s) ≡ b → cond b (Refused Length 0) (firstBroken (ruleCheck s) (ruleCount s)) ≡ Accepted
           → (badLength (length s) ≡ false) × AllFine s
       to true t e = not-accepted (sym e)
-      to false t e = (t, all-fine (ruleCheck s) (ruleCount s) e)
+      to false t e = (t, λ i low high. fine-exactly s i .0 (all-fine (ruleCheck s) (ruleCount s) e i low high))
 
   pub check-refuses-exactly : (why : CheckRefusal) (i : ℕ)
       → (check s ≡ Refused why i)
@@ -180,8 +123,11 @@ module _ (s : List ℕ) where
       to true t e = inl (t, sym (ap whyIn e), sym (ap ruleNumberIn e))
       to false t e =
           let h = first-named (ruleCheck s) (ruleCount s) why i e in
-          inr (t, record { low = h .0; high = h .1; breaks = h .2; below = h .3 })
+          inr (t, record { low = h .0; high = h .1; lowest = lowest-exactly s i why .0 (h .2); below = λ j low high. fine-exactly s j .0 (h .3 j low high) })
 
       from : ((badLength (length s) ≡ true) × (why ≡ Length) × (i ≡ 0)) ⊎ ((badLength (length s) ≡ false) × FirstToBreak s why i) → check s ≡ Refused why i
       from (inl (t, w, z)) = rw (t, w, z)
-      from (inr (t, h)) = rw t (named-first (ruleCheck s) (ruleCount s) why i (h .low, h .high, h .breaks, h .below))
+      from (inr (t, h)) =
+          rw t
+          (named-first (ruleCheck s) (ruleCount s) why i
+          (h .low, h .high, lowest-exactly s i why .1 (h .lowest), λ j low high. fine-exactly s j .1 (h .below j low high)))

@@ -1,3 +1,4 @@
+pub mod LowestNumber
 pub mod Bits
 pub mod Tests
 pub mod Measure

@@ -2,7 +2,7 @@
 use Prim.Native.Nat.{ℕ, zero, suc, _+_, _-_, _%_, _≤_, _<_}
 use mathlib.Core.Path.{_≡_}
 use mathlib.Core.List.{List, [], _∷_}
-use mathlib.Core.Bool.{Bool, false, not, cond, _&&_, _||_}
+use mathlib.Core.Bool.{Bool, true, false, not, cond, _&&_, _||_}
 use lib.ListN.{length}
 use lib.Dec.{ltb, leb, eqb}
 use Rattle.rules.specs.declared.Rule.{Rule}
@@ -187,13 +187,40 @@ check s = cond (badLength (length s)) (Refused Length 0) (firstBroken (ruleCheck
 
 -- ---- what an answer says of the rules, in document 01's words
 
--- rule i is the first that breaks one, and this is what it breaks
+-- the table, each refusal by itself: whether rule i breaks it (30 is the set's, no rule's)
+abbrev pub breaks : List ℕ → ℕ → CheckRefusal → Bool
+breaks s i Length = false
+breaks s i Mark = not (eqb (recordOf s i .mark) 21109)
+breaks s i Attribute = not (known (ruleOf s i .attribute))
+breaks s i Opcode = badOpcode (ruleOf s i .opcode)
+breaks s i Limits = ltb 4 (declaredOf s i .depth) || ltb 16 (declaredOf s i .held)
+breaks s i FirstRule = eqb i 1 && differs (declaredOf s i) 0 0 0
+breaks s i ReturnInMain = isReturn (actionOf (ruleOf s i .opcode)) && eqb (declaredOf s i .home) 0
+breaks s i Target =
+    badTarget (actionOf (ruleOf s i .opcode)) (ruleCount s) i (ruleOf s i .parameter)
+    || returnsNowhere (ruleCount s) (ruleOf s) (declaredOf s) (ruleOf s i) (declaredOf s i)
+breaks s i Queue = badQueue (actionOf (ruleOf s i .opcode)) (declaredOf s i .held)
+breaks s i Successor =
+    nextDiffers (ruleCount s) (ruleOf s) (declaredOf s) i (ruleOf s i) (declaredOf s i)
+    || targetDiffers (ruleCount s) (ruleOf s) (declaredOf s) (ruleOf s i) (declaredOf s i)
+    || returnDiffers (ruleCount s) (ruleOf s) (declaredOf s) (ruleOf s i) (declaredOf s i)
+
+-- rule i breaks none
+abbrev pub BreaksNone : List ℕ → ℕ → Type 0
+BreaksNone s i = (w : CheckRefusal) → breaks s i w ≡ false
+
+-- of what rule i breaks, this has the lowest number
+pub record LowestBroken (s : List ℕ) (i : ℕ) (why : CheckRefusal) : Type 0 where
+  pub broken : breaks s i why ≡ true
+  pub none-lower : (w : CheckRefusal) → checkNumber w < checkNumber why → breaks s i w ≡ false
+
+-- rule i is the first that breaks one, and this is the lowest number that it breaks
 pub record FirstToBreak (s : List ℕ) (why : CheckRefusal) (i : ℕ) : Type 0 where
   pub low : 1 ≤ i
   pub high : i ≤ ruleCount s
-  pub breaks : ruleCheck s i ≡ Breaks why
-  pub below : (j : ℕ) → 1 ≤ j → j < i → ruleCheck s j ≡ Fine
+  pub lowest : LowestBroken s i why
+  pub below : (j : ℕ) → 1 ≤ j → j < i → BreaksNone s j
 
 -- no rule breaks one
 abbrev pub AllFine : List ℕ → Type 0
-AllFine s = (i : ℕ) → 1 ≤ i → i ≤ ruleCount s → ruleCheck s i ≡ Fine
+AllFine s = (i : ℕ) → 1 ≤ i → i ≤ ruleCount s → BreaksNone s i

@@ -34,6 +34,7 @@ use Rattle.reader.proofs.datagram.next_sample.Met as next-sample
 use Rattle.ledger.proofs.free_row.Met as free-row
 use Rattle.ledger.proofs.enter.Met as table
 use Rattle.ledger.proofs.update_row.Met as lent-row
+use Rattle.listing.proofs.end_text.Met as end-text
 use Rattle.export.proofs.sflow4_read.Met as read
 use Rattle.export.proofs.sflow4_sample.Met as sample
 use Rattle.export.proofs.sflow4_extended.Met as extended
@@ -103,6 +104,7 @@ demand-1 =
       run-meets = run.met;
       lines-meets = lines.met;
       end-lines-meets = end-lines.met;
+      end-text-meets = end-text.met;
       in-numbers = in-numbers;
     }
 

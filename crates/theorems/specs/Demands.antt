@@ -41,6 +41,7 @@ use Rattle.reader.proofs.datagram.next_sample.Statement as next-sample
 use Rattle.ledger.proofs.free_row.Statement as free-row
 use Rattle.ledger.proofs.enter.Statement as table
 use Rattle.ledger.proofs.update_row.Statement as lent-row
+use Rattle.listing.proofs.end_text.Statement as end-text
 use Rattle.export.proofs.sflow4_read.Statement as read
 use Rattle.export.proofs.sflow4_sample.Statement as sample
 use Rattle.export.proofs.sflow4_extended.Statement as extended
@@ -63,7 +64,7 @@ use Rattle.export.proofs.sflow4_end_lines.Statement as end-lines
 -- number, its place and the contents of each lent buffer are those in document 01."
 --
 -- Each function that C and Rust can call, and those for a program in Rattle that are no part of one of them (the head alone and the walk over a datagram's
--- samples, the ledger's table by value and one lent row), meets its contract: a call is safe and ends, whatever it is given (no contract has a `requires`),
+-- samples, the ledger's table by value and one lent row, what follows the last record by the octets that are left), meets its contract: a call is safe and ends, whatever it is given (no contract has a `requires`),
 -- and what it answers and every lent slice and row afterwards are those of a definition. What these definitions answer, in document 01's numbers, is
 -- `InNumbers`.
 pub record Demand1 : Type 2 where
@@ -103,8 +104,9 @@ pub record Demand1 : Type 2 where
   pub run-meets : {M : Type 1} → run.statement M
   -- the records of a part of a capture listed
   pub lines-meets : {M : Type 1} → lines.statement M
-  -- what follows the last record
+  -- what follows the last record, where it is told whether the capture goes wrong there, or which octets are left
   pub end-lines-meets : {M : Type 1} → end-lines.statement M
+  pub end-text-meets : {M : Type 1} → end-text.statement M
   -- the numbers, places, rules and values of their answers
   pub in-numbers : InNumbers
 

@@ -6,8 +6,8 @@ use borrow.Author.Needs.{needs}
 use Rattle.lister.proofs.finish.Statement.{statement}
 use Rattle.lister.proofs.finish.Tie as tie
 
-end-lines-requires : tie.Need-end-lines-requires
-end-lines-requires c κs = search needs
+end-text-requires : tie.Need-end-text-requires
+end-text-requires c κs = search needs
 
 enum-known-n : tie.Need-enum-known-n
 enum-known-n c = search needs
@@ -23,10 +23,10 @@ returns c = search needs
 
 flush-requires : tie.Need-flush-requires
 flush-requires c κs =
-    let at-end-lines = c .before .before .before .before .before .before in
-    let entry = at-end-lines .before .before .before in
-    let e = at-end-lines .end-lines .last .0 in
-    let h = line-inside (entry .args .output .now) e _ _ _ (ap (λ x. afterwards x e) (sym (c .before .before .n .given .1)) ∙ at-end-lines .end-lines .ensures) (search needs) in
+    let at-end-text = c .before .before .before .before .before .before in
+    let entry = at-end-text .before .before .before .before in
+    let e = at-end-text .end-text .last .0 in
+    let h = line-inside (entry .args .output .now) e _ _ _ (ap (λ x. afterwards x e) (sym (c .before .before .n .given .1)) ∙ at-end-text .end-text .ensures) (search needs) in
     omega arith
 
 same-length-2 : tie.Need-same-length-2
@@ -39,7 +39,7 @@ pub finish-spec : {M : Type 1} → statement M
 finish-spec =
     tie.close
     (tie.spec
-    end-lines-requires
+    end-text-requires
     enum-known-n
     enum-told
     same-length

@@ -1,17 +1,17 @@
-use Rattle.lister.proofs.Parts.{front-inside}
-use native.Mathlib.Omega.{arith}
-use borrow.Author.Needs.{needs}
-use lib.ListN.{length, length-take}
-use mathlib.Core.Path.{_≡_, refl}
 use Prim.Native.Nat.{_≤_}
+use native.Mathlib.Omega.{arith}
+use mathlib.Core.Path.{_≡_, refl}
+use lib.ListN.{length, length-take}
+use borrow.Author.Needs.{needs}
+use Rattle.lister.proofs.Parts.{front-inside}
 use Rattle.lister.proofs.list_input.Statement.{statement}
 use Rattle.lister.proofs.list_input.Tie as tie
 
 abbrev Inv-loop : tie.InvT-loop
-Inv-loop input₀ output₀ state₀ held₀ turns₀ t9 input output state held turns = (length input ≡ length input₀) × (length output ≡ length output₀) × (held ≤ length input)
+Inv-loop input₀ output₀ state₀ held₀ turns₀ t10 input output state held turns = (length input ≡ length input₀) × (length output ≡ length output₀) × (held ≤ length input)
 
 abbrev μ-loop : tie.MeasureT-loop
-μ-loop input₀ output₀ state₀ held₀ turns₀ t9 input output state held turns = turns
+μ-loop input₀ output₀ state₀ held₀ turns₀ t10 input output state held turns = turns
 
 loop-holds : tie.Need-loop-holds Inv-loop μ-loop
 loop-holds c = (refl, refl, search needs)
@@ -33,6 +33,12 @@ same-length-2 c = search needs
 
 returns : tie.Need-returns Inv-loop μ-loop
 returns c = search needs
+
+slice-reshare-prefix-finish : tie.Need-slice-reshare-prefix-finish Inv-loop μ-loop
+slice-reshare-prefix-finish c = search needs
+
+slice-aggregate-finish : tie.Need-slice-aggregate-finish Inv-loop μ-loop
+slice-aggregate-finish c = rw length-take (omega arith)
 
 finish-requires : tie.Need-finish-requires Inv-loop μ-loop
 finish-requires c κs = search needs
@@ -64,8 +70,14 @@ same-length-6 c = search needs
 returns-3 : tie.Need-returns-3 Inv-loop μ-loop
 returns-3 c = search needs
 
-enum-told : tie.Need-enum-told Inv-loop μ-loop
-enum-told c = search needs
+sub-finish : tie.Need-sub-finish Inv-loop μ-loop
+sub-finish c = front-inside _ _ _ (c .before .before .before .before .before .before .list-held .ensures .inside)
+
+part-finish-start : tie.Need-part-finish-start Inv-loop μ-loop
+part-finish-start c = front-inside _ _ _ (c .before .before .before .before .before .before .before .list-held .ensures .inside)
+
+part-finish-end : tie.Need-part-finish-end Inv-loop μ-loop
+part-finish-end c = search needs
 
 finish-requires-2 : tie.Need-finish-requires-2 Inv-loop μ-loop
 finish-requires-2 c κs = search needs
@@ -80,10 +92,10 @@ returns-4 : tie.Need-returns-4 Inv-loop μ-loop
 returns-4 c = search needs
 
 shift-requires : tie.Need-shift-requires Inv-loop μ-loop
-shift-requires c κs = (front-inside _ _ _ (c .before .before .before .before .before .before .list-held .ensures), search needs)
+shift-requires c κs = (front-inside _ _ _ (c .before .before .before .before .before .before .list-held .ensures .inside), search needs)
 
 sub-held : tie.Need-sub-held Inv-loop μ-loop
-sub-held c = front-inside _ _ _ (c .before .before .before .before .before .before .before .before .before .before .list-held .ensures)
+sub-held c = front-inside _ _ _ (c .before .before .before .before .before .before .before .before .before .list-held .ensures .inside)
 
 sub-turns : tie.Need-sub-turns Inv-loop μ-loop
 sub-turns c = search needs
@@ -116,6 +128,8 @@ list-input-spec =
     same-length
     same-length-2
     returns
+    slice-reshare-prefix-finish
+    slice-aggregate-finish
     finish-requires
     same-length-3
     same-length-4
@@ -126,7 +140,9 @@ list-input-spec =
     same-length-5
     same-length-6
     returns-3
-    enum-told
+    sub-finish
+    part-finish-start
+    part-finish-end
     finish-requires-2
     same-length-7
     same-length-8
