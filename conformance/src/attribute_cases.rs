@@ -26,10 +26,14 @@ pub fn attribute_cases() -> Vec<AttributeCase> {
         lengths_of_samples(),
         forms_of_packets(),
         protocols_of_packets(),
+        protocols_near_ports(),
+        first_octets(),
+        header_lengths_in_20_octets(),
         versions_of_packets(),
         header_lengths_of_packets(),
         ethernet_types(),
         header_protocols(),
+        read_both_ways(),
         fields_passed_over(),
         no_flow_samples(),
         long_samples(),
@@ -179,16 +183,91 @@ fn forms_of_packets() -> Vec<AttributeCase> {
     cases
 }
 
-/// IP protocols next to those with ports, and others.
+/// Every IP protocol with four octets behind the header: 6 and 17 have ports.
 fn protocols_of_packets() -> Vec<AttributeCase> {
     let mut cases = Vec::new();
     for carrier in CARRIERS {
-        for protocol in [0, 1, 2, 4, 5, 6, 7, 16, 17, 18, 41, 50, 132, 255] {
+        for protocol in 0..=u8::MAX {
             let form = Ipv4Form {
                 protocol,
                 ..Ipv4Form::tcp(4)
             };
             cases.push(whole_packet(carrier, form));
+        }
+    }
+    cases
+}
+
+/// The protocols with ports, and others that differ from them in one bit,
+/// with 0 to 3 octets behind the header and with options before the ports.
+fn protocols_near_ports() -> Vec<AttributeCase> {
+    let near = |protocol: u8| (0..8).map(move |bit| protocol ^ 1 << bit);
+    let near: Vec<u8> = near(6).chain(near(17)).chain([6, 17, 23, 0]).collect();
+    let mut cases = Vec::new();
+    for (words, behind) in [(5, 0), (5, 1), (5, 2), (5, 3), (7, 4), (15, 9)] {
+        for &protocol in &near {
+            let form = Ipv4Form {
+                version: 4,
+                words,
+                protocol,
+                behind,
+            };
+            cases.push(whole_packet(IPV4, form));
+        }
+    }
+    cases
+}
+
+/// Every first octet, with 64 octets there: only 45 to 4f begin a packet.
+fn first_octets() -> Vec<AttributeCase> {
+    let mut cases = Vec::new();
+    for first in 0..=u8::MAX {
+        let (version, words) = (first >> 4, first & 15);
+        let form = Ipv4Form {
+            version,
+            words,
+            ..Ipv4Form::tcp(4)
+        };
+        // Octets behind a short header are those of a longer one.
+        let mut header = form.octets();
+        if words < 5 {
+            let longest = Ipv4Form { words: 15, ..form };
+            header = longest.octets();
+            header[0] = first;
+        }
+        let words = format!("first octet {first:02x}");
+        cases.push(header_case(words, IPV4, header, told(form)));
+    }
+    cases
+}
+
+/// Every header length with exactly 20 octets there: 5 only is present. With
+/// 19 none is.
+fn header_lengths_in_20_octets() -> Vec<AttributeCase> {
+    let mut cases = Vec::new();
+    for protocol in CARRIERS {
+        for words in 0..16 {
+            let (form, longest) = (
+                Ipv4Form::tcp(0),
+                Ipv4Form {
+                    words: 15,
+                    ..Ipv4Form::tcp(0)
+                },
+            );
+            let mut packet = longest.octets();
+            packet[0] = 0x40 | words;
+            for length in [20, 19] {
+                packet.truncate(length);
+                let whole = words == 5 && length == 20;
+                let peers = if whole { told(form) } else { Peers::default() };
+                let text = format!("header protocol {protocol}, length {words}, {length} octets");
+                cases.push(header_case(
+                    text,
+                    protocol,
+                    carried(protocol, &packet),
+                    peers,
+                ));
+            }
         }
     }
     cases
@@ -237,20 +316,23 @@ fn cut_packet(protocol: u32, form: Ipv4Form) -> AttributeCase {
     header_case(words, protocol, header, Peers::default())
 }
 
-/// Ethernet types, nearly right and others.
-const OTHER_TYPES: [[u8; 2]; 11] = [
-    [0x08, 0x01],
-    [0x09, 0x00],
+/// Ethernet types of other kinds.
+const OTHER_TYPES: [[u8; 2]; 8] = [
     [0x00, 0x08],
-    [0x00, 0x00],
     [0x00, 0x2c],
     [0x08, 0x06],
-    [0x08, 0x80],
+    [0x80, 0x00],
     [0x81, 0x00],
     [0x86, 0xdd],
-    [0x88, 0x00],
     [0xff, 0xff],
+    [0x08, 0x08],
 ];
+
+/// Ethernet types that differ from that of IPv4 in one bit.
+fn nearest_types() -> impl Iterator<Item = [u8; 2]> {
+    let right = u16::from_be_bytes(ETHERNET_IPV4);
+    (0..16).map(move |bit| (right ^ 1 << bit).to_be_bytes())
+}
 
 /// The Ethernet type of IPv4 and others; a tag before the type.
 fn ethernet_types() -> Vec<AttributeCase> {
@@ -264,7 +346,8 @@ fn ethernet_types() -> Vec<AttributeCase> {
     let tag = [&[0x00, 0x05, 0x08, 0x00], &packet[..]].concat();
     let tagged = ethernet([0x81, 0x00], &tag);
     let mut cases = vec![of_type(ETHERNET_IPV4, told(form))];
-    cases.extend(OTHER_TYPES.map(|kind| of_type(kind, none)));
+    let others = nearest_types().chain(OTHER_TYPES);
+    cases.extend(others.map(|kind| of_type(kind, none)));
     cases.push(header_case("a tagged frame".into(), ETHERNET, tagged, none));
     cases
 }
@@ -286,6 +369,36 @@ fn header_protocols() -> Vec<AttributeCase> {
     }
     cases.push(ipv6_packet());
     cases
+}
+
+/// Octets that are an IPv4 packet from octet 0 and a frame with another one
+/// from octet 14, under every header protocol. The outer one's source address
+/// begins with the Ethernet type, and its destination and its ports are the
+/// inner one's third to tenth octets.
+fn read_both_ways() -> Vec<AttributeCase> {
+    let form = Ipv4Form::tcp(4);
+    let first = [0x45, 0, 0, 60, 0, 0, 0, 0, 64, 17, 0, 0];
+    let header = [&first[..], &ETHERNET_IPV4, &form.octets()].concat();
+    let outer = Peers {
+        peer_type: PEER_IPV4,
+        source_address: 0x0800_4500,
+        dest_address: 0x0028_0001,
+        protocol: 17,
+        source_port: 0x4000,
+        dest_port: 0x4006,
+    };
+    let read_as = |protocol: u32| {
+        let peers = match protocol {
+            ETHERNET => told(form),
+            IPV4 => outer,
+            _ => Peers::default(),
+        };
+        let words = format!("header protocol {protocol}, a packet both ways");
+        header_case(words, protocol, header.clone(), peers)
+    };
+    (FIRST_HEADER_PROTOCOL..=LAST_HEADER_PROTOCOL)
+        .map(read_as)
+        .collect()
 }
 
 /// An IPv6 packet under header protocol 12.

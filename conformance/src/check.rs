@@ -45,8 +45,25 @@ pub fn check(octets: &[u8]) -> Result<Vec<Rule>, RuleRefusal> {
 
 /// The lowest number that rule `number` of the set breaks.
 fn first_broken(rules: &[Rule], number: usize, rule: &Rule) -> Option<u32> {
+    let broken = tested(rules, number, rule).into_iter();
+    let mut broken = broken.filter(|(_, broken)| *broken);
+    broken.next().map(|(refusal, _)| refusal)
+}
+
+/// All numbers from 31 on that the rule at this number of the set breaks, the
+/// lowest first; none where there is no such rule.
+pub fn broken_numbers(rules: &[Rule], number: usize) -> Vec<u32> {
+    let tested = rule_at(rules, number).map(|rule| tested(rules, number, rule));
+    let broken = tested.into_iter().flatten();
+    broken
+        .filter_map(|(refusal, broken)| broken.then_some(refusal))
+        .collect()
+}
+
+/// The numbers in the order of the tests, and whether the rule breaks each.
+fn tested(rules: &[Rule], number: usize, rule: &Rule) -> [(u32, bool); 9] {
     let begins_with_something = rule.home != 0 || rule.depth != 0 || rule.held != 0;
-    let broken = [
+    [
         (31, rule.mark != MARK),
         (32, !is_attribute(rule.attribute)),
         (33, !is_opcode(rule.opcode)),
@@ -56,9 +73,7 @@ fn first_broken(rules: &[Rule], number: usize, rule: &Rule) -> Option<u32> {
         (37, leads_nowhere(rules, number, rule)),
         (38, breaks_queue(rule)),
         (39, contradicted(rules, number, rule)),
-    ];
-    let first = broken.into_iter().find(|(_, broken)| *broken);
-    first.map(|(refusal, _)| refusal)
+    ]
 }
 
 /// Whether a rule may have the opcode.

@@ -1,7 +1,10 @@
 //! Situations of the check, written by hand: rule sets, and what the scope
 //! and its readings state for them.
 
+use crate::as_they_stand_cases::as_they_stand_cases;
 use crate::attributes::*;
+use crate::check_pairs::pair_cases;
+use crate::field_cases::field_cases;
 use crate::rule_sets::*;
 use crate::rules::*;
 use crate::successor_cases::successor_cases;
@@ -32,7 +35,10 @@ pub fn check_cases() -> Vec<CheckCase> {
         returns_to_no_rule(),
         items(),
         successor_cases(),
+        as_they_stand_cases(),
         which_is_named(),
+        pair_cases(),
+        field_cases(),
     ]
     .concat()
 }

@@ -7,9 +7,13 @@ use crate::encoder::{encode, Encoding, Item, ItemKind};
 use crate::grammar;
 use crate::parts::{datagram, flow, header, mixed};
 use crate::random::Random;
+use crate::random_damage::several_damages;
 
 /// The items of a datagram before its first sample.
 const ITEMS_BEFORE_SAMPLES: usize = 6;
+
+/// The datagrams with two to four damages.
+const SEVERAL: usize = 240;
 
 /// All damaged datagrams.
 pub fn damaged(random: &mut Random) -> Vec<Vec<u8>> {
@@ -32,16 +36,19 @@ pub fn damaged(random: &mut Random) -> Vec<Vec<u8>> {
     }
     all.extend(header_limits(random));
     all.extend(scrambled(random));
+    for turn in 0..SEVERAL {
+        all.push(several_damages(random, &flows[turn % flows.len()]));
+    }
     all
 }
 
 /// The first `length` octets.
-fn cut(octets: &[u8], length: usize) -> Vec<u8> {
+pub fn cut(octets: &[u8], length: usize) -> Vec<u8> {
     octets.iter().copied().take(length).collect()
 }
 
 /// The octets with one word replaced.
-fn with_word(octets: &[u8], offset: usize, value: u32) -> Vec<u8> {
+pub fn with_word(octets: &[u8], offset: usize, value: u32) -> Vec<u8> {
     let mut changed = octets.to_vec();
     let word = value.to_be_bytes();
     for (octet, new) in changed.iter_mut().skip(offset).zip(word) {

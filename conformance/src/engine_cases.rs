@@ -52,6 +52,9 @@ pub fn engine_cases() -> Vec<EngineCase> {
         queues(),
         keys(),
         untested_counts(),
+        untested_actions(),
+        masks(),
+        items_across_calls(),
         packet_values(),
         refused_sets(),
         refused_samples(),
@@ -374,6 +377,114 @@ fn untested_counts() -> Vec<EngineCase> {
         case("CountPkt, tested", GOTO, COUNT_PKT, port, port),
         case("Count, untested", GOTO_ACT, COUNT, 1, 1),
         case("CountPkt, untested", GOTO_ACT, COUNT_PKT, 1, port),
+    ]
+}
+
+/// Every opcode with a goto flag, and Return, come to with the indicator off
+/// and with a test that would fail: they act, and their own flag decides
+/// whether the next rule is tested, one that would fail too.
+fn untested_actions() -> Vec<EngineCase> {
+    let mut cases: Vec<EngineCase> = [6, 7, 10, 11, 12, 13, 14, 15, 16, 17]
+        .map(untested_action)
+        .into();
+    // The Return is come to untested, and so is the rule behind its Gosub.
+    let back = failing(Rule::new(RETURN, 1)).inside(4, 1);
+    let rules = [
+        Rule::new(GOSUB_ACT, 4),
+        failing(Rule::new(COUNT, 0)),
+        ignore(),
+        back,
+        ignore().inside(4, 1),
+    ];
+    let key = [(SOURCE_INTERFACE, ALL, 0)];
+    cases.push(keyed("Return untested", &rules, COUNTED, 3, &key));
+    cases
+}
+
+fn untested_action(opcode: u8) -> EngineCase {
+    let pops = opcode == POP_TO || opcode == POP_TO_ACT;
+    let place = |rule: Rule| match opcode {
+        GOSUB | GOSUB_ACT => rule.inside(4, 1),
+        PUSH_RULE_TO..=PUSH_PKT_TO_ACT => rule.holding(1),
+        _ => rule,
+    };
+    let held = u8::from(pops);
+    let first = Rule::new(if pops { PUSH_RULE_TO_ACT } else { GOTO_ACT }, 2);
+    let rules = [
+        first,
+        failing(Rule::new(opcode, 4)).holding(held),
+        Rule::new(NO_MATCH, 0).holding(held),
+        place(Rule::new(COUNT_PKT, 0).with_test(DEST_INTERFACE, 0x0f, 0x0f)),
+        place(ignore()),
+    ];
+    let words = format!("opcode {opcode} untested before a test that fails");
+    if opcode % 2 == 0 {
+        return answered(&words, &rules, IGNORED, 4);
+    }
+    // The output is 258, so 2 of it is counted; a push has queued the input
+    // or the rule's 0.
+    let counted = (DEST_INTERFACE, 0x0f, 2);
+    let queued = match opcode {
+        PUSH_RULE_TO_ACT => vec![(SOURCE_INTERFACE, ALL, 0), counted],
+        PUSH_PKT_TO_ACT => vec![(SOURCE_INTERFACE, ALL, INPUT), counted],
+        _ => vec![counted],
+    };
+    keyed(&words, &rules, COUNTED_PKT, 3, &queued)
+}
+
+/// Masks of all and of no bits, and values with bits beside their mask. The
+/// input is 80000007.
+fn masks() -> Vec<EngineCase> {
+    let case = |mask: u32, value: u32, matches: bool| {
+        let rules = [Rule::new(IGNORE, 0).with_test(SOURCE_INTERFACE, mask, value)];
+        let words = format!("input & {mask:08x} = {value:08x}");
+        let answer = if matches { IGNORED } else { NOT_MATCHED };
+        answered(&words, &rules, answer, 1)
+    };
+    vec![
+        case(0, 0, true),
+        case(0, 1, false),
+        case(0, INPUT, false),
+        case(0, ALL, false),
+        case(ALL, INPUT, true),
+        case(ALL, 0, false),
+        case(ALL, 7, false),
+        case(ALL, ALL, false),
+        case(7, 7, true),
+        case(7, INPUT, false),
+        case(0xff, 7, true),
+        case(0xff, 0x107, false),
+        case(1 << 31, 1 << 31, true),
+        case(1 << 31, 0, false),
+        case(8, 0, true),
+        case(!INPUT, 0, true),
+    ]
+}
+
+/// Items stay queued through Gosub and Return; falling off the end loses them.
+fn items_across_calls() -> Vec<EngineCase> {
+    let high = 0xffff_0000;
+    let first = Rule::new(PUSH_RULE_TO, 3).with_test(DEST_PEER_TYPE, ALL, 1);
+    let inner = Rule::new(PUSH_PKT_TO, 8).with_test(A, high, SOURCE & high);
+    let called = [
+        first,
+        ignore(),
+        Rule::new(GOSUB, 6).holding(1),
+        Rule::new(COUNT, 0).with_test(B, 5, 6).holding(2),
+        ignore().holding(2),
+        inner.inside(6, 1).holding(1),
+        ignore().inside(6, 1).holding(1),
+        Rule::new(RETURN, 1).inside(6, 1).holding(2),
+    ];
+    let key = [
+        (A, high, SOURCE & high),
+        (DEST_PEER_TYPE, ALL, 1),
+        (B, 5, 6),
+    ];
+    let fallen = [first, ignore(), failing(Rule::new(COUNT, 0)).holding(1)];
+    vec![
+        keyed("items of a subroutine", &called, COUNTED, 5, &key),
+        answered("items lost behind the last rule", &fallen, NOT_MATCHED, 2),
     ]
 }
 

@@ -2,7 +2,7 @@
 //! their two files.
 
 use crate::attributes::{attributes, Attributes};
-use crate::check_vectors::any_length;
+use crate::check_vectors::{any_length, crowded_sets};
 use crate::engine::{engine, Outcome};
 use crate::engine_cases::engine_cases;
 use crate::framing::{file_of, whole_strings};
@@ -10,7 +10,9 @@ use crate::random::Random;
 use crate::random_samples::*;
 use crate::rule_damage::{aimed_miss, near_miss, AIMS};
 use crate::rule_generator::{accepted_set, any_plan};
+use crate::rule_layout::Plan;
 use crate::rules::*;
+use crate::small_rule_sets::small_set;
 use crate::value::FlowSample;
 
 /// A rule set and the octets of a sample.
@@ -25,6 +27,9 @@ pub struct Pair {
 /// How many random sets there are.
 const SETS: usize = 420;
 
+/// How many pairs there are whose runs fill the queue.
+const FILLING: usize = 20;
+
 /// All pairs for a seed.
 pub fn engine_vectors(seed: u64) -> Vec<Pair> {
     let mut random = Random::new(seed);
@@ -33,7 +38,23 @@ pub fn engine_vectors(seed: u64) -> Vec<Pair> {
     for turn in 0..SETS {
         all.extend(pairs_of_one_set(&mut random, turn));
     }
+    all.extend((0..FILLING).map(|_| filling_pair(&mut random)));
     all
+}
+
+/// A set that only adds items, and the sample that its tests are made for.
+fn filling_pair(random: &mut Random) -> Pair {
+    let flow = flow_sample(random);
+    let plan = Plan {
+        calls: 0,
+        changes: 7,
+        adds: 8,
+        ends: 0,
+        passes: 8,
+        ..any_plan(random, 90)
+    };
+    let rules = accepted_set(random, &plan, &[attributes(&flow)]);
+    pair(octets_of_rules(&rules), octets_of_flow(&flow))
 }
 
 fn pair(set: Vec<u8>, sample: Vec<u8>) -> Pair {
@@ -41,7 +62,8 @@ fn pair(set: Vec<u8>, sample: Vec<u8>) -> Pair {
 }
 
 /// A random set with two samples that its tests are made for and one that
-/// they are not; now and then near misses, and octets that are no sample.
+/// they are not, and a small set; now and then near misses, sets with several
+/// changes, and octets that are no sample.
 pub fn pairs_of_one_set(random: &mut Random, turn: usize) -> Vec<Pair> {
     let flows: Vec<FlowSample> = (0..3).map(|_| flow_sample(random)).collect();
     let packets: Vec<Attributes> = flows.iter().take(2).map(attributes).collect();
@@ -51,7 +73,13 @@ pub fn pairs_of_one_set(random: &mut Random, turn: usize) -> Vec<Pair> {
     let set = octets_of_rules(&rules);
     let with_flow = |flow: &FlowSample| pair(set.clone(), octets_of_flow(flow));
     let mut pairs: Vec<Pair> = flows.iter().map(with_flow).collect();
+    pairs.push(pair(
+        octets_of_rules(&small_set(random)),
+        octets_of_flow(&flows[2]),
+    ));
     if turn.is_multiple_of(4) {
+        let crowded = crowded_sets(random).into_iter();
+        pairs.extend(crowded.map(|set| pair(set, octets_of_flow(&flows[1]))));
         let aim = AIMS[turn / 4 % AIMS.len()];
         let missed = [near_miss(random, &rules), aimed_miss(random, &rules, aim)];
         let sample = octets_of_flow(&flows[0]);

@@ -6,7 +6,7 @@ use crate::bases::{counter_bases, flow_bases};
 use crate::captures::small_captures;
 use crate::cases::{beginning, header_datagram};
 use crate::check_cases::check_cases;
-use crate::check_vectors::any_set;
+use crate::check_vectors::{any_set, crowded_sets};
 use crate::damage::scramble;
 use crate::edges::of_length;
 use crate::engine_vectors::{engine_vectors, pairs_of_one_set, Pair};
@@ -14,27 +14,33 @@ use crate::grammar::MAX_DATAGRAM_SIZE;
 use crate::ledger_cases::situation_records;
 use crate::ledger_records::Record;
 use crate::ledger_runs::{run, MIXES};
+use crate::listing_cases::listing_cases;
 use crate::random::Random;
-use crate::random_captures::{bad_end, random_records};
+use crate::random_captures::{bad_end, changed_records, random_records};
 use crate::random_datagrams::{any_datagram, valid_datagram};
 use crate::random_writes::any_call;
+use crate::reader_edges::long_situations;
+use crate::rule_changes::{faults_of_one_rule, several_changes};
 use crate::rule_damage::{aimed_miss, near_miss, AIMS};
 use crate::rule_generator::{accepted_set, any_plan};
 use crate::rule_sets::{nested_calls, pushes};
 use crate::rules::{octets_of_rules, Rule, COUNT_PKT};
 use crate::vectors::vectors;
 use crate::write_calls::WriteCall;
+use crate::write_cases::write_cases;
 
 /// The seed of the inputs that are fixed.
 const FIXED: u64 = 1;
 
-/// Endless datagrams: the vectors of the seed, then valid ones of every form,
-/// ones damaged at any item or cut anywhere, and now and then ones of about
-/// 65,507 octets.
+/// Endless datagrams: the vectors of the seed and the long situations, then
+/// valid ones of every form, ones damaged at any item, at several items or cut
+/// anywhere, and now and then ones of about 65,507 octets.
 pub fn datagrams(seed: u64) -> impl Iterator<Item = Vec<u8>> {
     let first = vectors(seed).into_iter().map(|vector| vector.octets);
+    let long = long_situations().into_iter().map(|own| own.octets);
     let mut random = Random::new(seed);
-    first.chain(std::iter::repeat_with(move || one_datagram(&mut random)))
+    let further = std::iter::repeat_with(move || one_datagram(&mut random));
+    first.chain(long).chain(further)
 }
 
 /// A datagram of any kind.
@@ -96,7 +102,9 @@ fn changes(octets: Vec<u8>) -> impl Iterator<Item = Vec<u8>> {
 const MISSES: usize = 8;
 
 /// Endless rule sets: the situations of the check, then accepted sets, each
-/// with near misses of any kind and one aimed at every refusal.
+/// with near misses of any kind and one aimed at every refusal, sets with two
+/// to four fields changed, sets with up to four faults of one rule, and small
+/// sets at random.
 pub fn rule_sets(seed: u64) -> impl Iterator<Item = Vec<u8>> {
     let mut random = Random::new(seed);
     let situations = check_cases().into_iter().map(|case| case.set);
@@ -110,6 +118,9 @@ fn set_and_misses(random: &mut Random) -> Vec<Vec<u8>> {
     let mut all = vec![octets_of_rules(&rules)];
     all.extend((0..MISSES).map(|_| near_miss(random, &rules)));
     all.extend(AIMS.map(|aim| aimed_miss(random, &rules, aim)));
+    all.extend((0..MISSES).map(|_| several_changes(random, &rules)));
+    all.extend((0..MISSES).map(|_| faults_of_one_rule(random, &rules)));
+    all.extend((0..4).flat_map(|_| crowded_sets(random)));
     all
 }
 
@@ -165,19 +176,25 @@ pub fn ledger_runs(seed: u64) -> impl Iterator<Item = Vec<Record>> {
     std::iter::once(situation_records()).chain(random_runs)
 }
 
-/// Endless calls of the writer's functions, with values right and wrong and
-/// buffers long enough or not.
+/// Endless calls of the writer's functions: the situations of the writer, then
+/// calls with values right and wrong and buffers long enough or not, at times
+/// with several faults at once.
 pub fn writes(seed: u64) -> impl Iterator<Item = WriteCall> {
+    let situations = write_cases().into_iter().map(|case| case.call);
     let mut random = Random::new(seed);
-    std::iter::repeat_with(move || any_call(&mut random))
+    situations.chain(std::iter::repeat_with(move || any_call(&mut random)))
 }
 
-/// Endless captures: the small samples, then random ones of up to 9 records,
-/// whole, with a bad end, cut anywhere or with octets changed.
+/// Endless captures: the small samples and the situations of the lister, then
+/// random ones of up to 9 records,
+/// whole, with a bad end, cut anywhere, with octets changed or with several
+/// changes of their heads.
 pub fn captures(seed: u64) -> impl Iterator<Item = Vec<u8>> {
     let samples = small_captures().into_iter().map(|sample| sample.capture);
+    let situations = listing_cases().into_iter().map(|case| case.capture);
     let mut random = Random::new(seed);
-    samples.chain(std::iter::repeat_with(move || one_capture(&mut random)))
+    let further = std::iter::repeat_with(move || one_capture(&mut random));
+    samples.chain(situations).chain(further)
 }
 
 /// A capture of any kind.
@@ -185,10 +202,11 @@ fn one_capture(random: &mut Random) -> Vec<u8> {
     let count = random.below(10);
     let records = random_records(random.hyper()).take(count);
     let mut capture: Vec<u8> = records.flatten().collect();
-    match random.below(6) {
+    match random.below(8) {
         0 | 1 => capture.extend(bad_end(random.hyper())),
         2 => capture.truncate(random.below(capture.len())),
         3 => capture = scramble(random, capture),
+        4 | 5 => capture = changed_records(random, count),
         _ => {}
     }
     capture

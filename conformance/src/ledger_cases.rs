@@ -3,6 +3,7 @@
 
 use crate::ledger::*;
 use crate::ledger_records::*;
+use crate::row_cases::row_cases;
 
 /// A situation. The table is empty before it.
 #[derive(Clone, Debug, PartialEq, Eq)]
@@ -26,6 +27,8 @@ pub fn situations() -> Vec<Situation> {
         identity_situations(),
         left_over_situations(),
         full_situations(),
+        known_in_full_tables(),
+        rows_of_cases(),
         vec![passed_over()],
     ]
     .concat()
@@ -408,6 +411,55 @@ fn one_source_everywhere() -> Situation {
     records.push(entered(source(2), 11, 5));
     records.push(lent(40, source(1), 12, 50));
     situation("all rows of one source", records, &[0, 40, 0])
+}
+
+/// A full table and sources that have a row in it, the first, a middle and the
+/// last, at every step; other sources get 40, whatever their numbers.
+fn known_in_full_tables() -> Vec<Situation> {
+    let mut all = Vec::new();
+    for n in [0_u32, 31, 63] {
+        let known = |step: u32| entered(source(100 + n), n.wrapping_add(step), 2 * n);
+        let mut near = source(100 + n);
+        near.address[3] ^= 1;
+        let new = |step: u32| entered(near, n.wrapping_add(step), 2 * n);
+        let (half, top) = (1 << 31, u32::MAX);
+        let more = vec![
+            known(0),
+            new(0),
+            known(half),
+            new(half),
+            known(top),
+            new(1),
+            show_record(),
+            known(half - 1),
+            new(half - 1),
+        ];
+        let stated = filled_then(&[41, 40, 42, 40, 42, 40, 0, 40]);
+        all.push(situation(
+            "known in a full table",
+            [filled(), more].concat(),
+            &stated,
+        ));
+    }
+    all
+}
+
+/// The situations of single rows, 64 to a table: all rows are set, shown, and
+/// lent in turn.
+fn rows_of_cases() -> Vec<Situation> {
+    let tables = row_cases();
+    let tables = tables.chunks(64).map(|cases| {
+        let rows = (0..).zip(cases);
+        let set = rows.clone().map(|(n, own)| set_record(n, &own.before));
+        let lent = rows.map(|(n, own)| lend_record(n, &own.sample));
+        let records = set.chain([show_record()]).chain(lent).collect();
+        let answers: Vec<u32> = cases
+            .iter()
+            .map(|own| own.stated.err().unwrap_or(0))
+            .collect();
+        situation("single rows", records, &answers)
+    });
+    tables.collect()
 }
 
 /// Records that are passed over.

@@ -26,8 +26,8 @@ pub struct Mix {
 /// The most operations of a block behind its set rows, without the show.
 pub const BLOCK_SAMPLES: usize = 14;
 
-/// Few sources; more sources than rows; rows set to anything.
-pub const MIXES: [Mix; 10] = [
+/// Few sources; more sources than rows; rows set to anything; no free rows.
+pub const MIXES: [Mix; 12] = [
     mix(3, 0, 0, 40),
     mix(5, 0, 2, 50),
     mix(90, 0, 0, 40),
@@ -38,6 +38,8 @@ pub const MIXES: [Mix; 10] = [
     preset(3, 2),
     preset(8, 3),
     preset(40, 1),
+    full(12, 2),
+    full(50, 4),
 ];
 
 const fn mix(sources: usize, sets: usize, lends: usize, blocks: usize) -> Mix {
@@ -68,6 +70,15 @@ const fn preset(sources: usize, lends: usize) -> Mix {
         free: 20,
         lends,
         blocks: 16,
+    }
+}
+
+/// All rows are set at first, and none is free.
+const fn full(sources: usize, lends: usize) -> Mix {
+    Mix {
+        free: usize::MAX,
+        blocks: 12,
+        ..preset(sources, lends)
     }
 }
 
@@ -231,18 +242,30 @@ impl Run<'_> {
         }
     }
 
-    /// One of the run's sources, at times a little changed. For type 1 the
-    /// change may be in octets that do not count.
+    /// One of the run's sources, at times changed in one to four ways.
     fn source(&mut self) -> Source {
         let mut source = pick(self.random, &self.sources).unwrap_or_default();
-        match self.random.below(16) {
-            0 => source.id ^= 1 << pick(self.random, &[0, 24, 31]).unwrap_or(0),
-            1 => source.address_type ^= 1,
-            2 | 3 => self.change_octet(&mut source),
-            4 | 5 if source.address_type == IPV4 => self.change_rest(&mut source),
-            _ => {}
+        let changes = match self.random.below(16) {
+            0..=4 => 1,
+            5 => 2 + self.random.below(3),
+            _ => 0,
+        };
+        for _ in 0..changes {
+            self.change_source(&mut source);
         }
         source
+    }
+
+    /// Changes a source a little. For type 1 the change may be in octets that
+    /// do not count.
+    fn change_source(&mut self, source: &mut Source) {
+        match self.random.below(6) {
+            0 => source.id ^= 1 << pick(self.random, &[0, 24, 31]).unwrap_or(0),
+            1 => source.address_type ^= 1,
+            2 | 3 => self.change_octet(source),
+            _ if source.address_type == IPV4 => self.change_rest(source),
+            _ => {}
+        }
     }
 
     /// Changes one bit of an octet of the address.
@@ -284,6 +307,12 @@ impl Run<'_> {
         let number = match pick(self.random, &numbers) {
             Some(number) => number,
             None => self.random.below(ROWS),
+        };
+        // A free row may hold what was its source's, and that comes again.
+        let left_over = self.table.rows.get(number).filter(|row| !row.used);
+        let source = match left_over {
+            Some(row) if self.random.below(3) == 0 => row.source,
+            _ => source,
         };
         let sample = self.following(number, source);
         lend_record(number as u32, &sample)

@@ -29,6 +29,19 @@ impl Random {
         (self.hyper() % (limit.max(1) as u64)) as usize
     }
 
+    /// Two to four numbers below `limit`, half of the time all the same.
+    pub fn several(&mut self, limit: usize) -> Vec<usize> {
+        let first = self.below(limit);
+        let same = self.below(2) == 0;
+        let further = 1 + self.below(3);
+        let mut numbers = vec![first];
+        for _ in 0..further {
+            let number = if same { first } else { self.below(limit) };
+            numbers.push(number);
+        }
+        numbers
+    }
+
     /// A word: one time in four the end of a range, otherwise any.
     pub fn word(&mut self) -> u32 {
         if self.below(4) == 0 {

@@ -72,6 +72,40 @@ fn cut_record(random: &mut Random, least: usize, most: usize) -> Vec<u8> {
     octets
 }
 
+/// So many records, of which the heads have two to four changes, half of the
+/// time those of one record: a bit of the mark, a length over 65,507, 0 or
+/// about the right one, octets of the datagram, or a cut.
+pub fn changed_records(random: &mut Random, count: usize) -> Vec<u8> {
+    let mut records: Vec<Vec<u8>> = (0..count.max(1)).map(|_| random_record(random)).collect();
+    for at in random.several(records.len()) {
+        change_record(random, &mut records[at]);
+    }
+    records.concat()
+}
+
+/// Makes one change of a record.
+fn change_record(random: &mut Random, record: &mut Vec<u8>) {
+    let kind = random.below(6);
+    let [_, _, high, low, ..] = record[..] else {
+        return;
+    };
+    let length = u16::from_be_bytes([high, low]);
+    let other = match kind {
+        0 | 1 => {
+            record[random.below(2)] ^= 1 << random.below(8);
+            return;
+        }
+        2 => {
+            record.truncate(random.below(record.len()));
+            return;
+        }
+        3 => [0, 65_507, 65_508, u16::MAX][random.below(4)],
+        4 => length.wrapping_add(1 + random.below(4) as u16),
+        _ => length.wrapping_sub(1 + random.below(4) as u16),
+    };
+    record.splice(2..4, other.to_be_bytes());
+}
+
 #[cfg(test)]
 mod tests {
     use super::*;

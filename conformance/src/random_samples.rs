@@ -1,12 +1,13 @@
 //! Random flow samples, most of them with packets that the attributes look
 //! into.
 
-use crate::attributes::ETHERNET_IPV4;
+use crate::attributes::{ETHERNET_IPV4, LEAST_IPV4_OCTETS, TCP, UDP};
 use crate::encoder::encode_sample;
 use crate::grammar::MAX_HEADER_SIZE;
 use crate::packets::*;
 use crate::parts;
 use crate::random::Random;
+use crate::random_damage::several_damages;
 use crate::value::*;
 
 /// A random flow sample.
@@ -29,11 +30,12 @@ pub fn octets_of_flow(flow: &FlowSample) -> Vec<u8> {
     encode_sample(&Sample::Flow(flow.clone())).octets
 }
 
-/// Octets that are nearly a flow sample: cut, longer, with another word, or
-/// of a counter sample.
+/// Octets that are nearly a flow sample: cut, longer, with another word, with
+/// several faults, or of a counter sample.
 pub fn no_flow_sample(random: &mut Random) -> Vec<u8> {
-    let mut octets = octets_of_flow(&flow_sample(random));
-    match random.below(4) {
+    let whole = encode_sample(&Sample::Flow(flow_sample(random)));
+    let mut octets = whole.octets.clone();
+    match random.below(5) {
         0 => octets.truncate(random.below(octets.len())),
         1 => {
             let more = 1 + random.below(8);
@@ -43,6 +45,7 @@ pub fn no_flow_sample(random: &mut Random) -> Vec<u8> {
             let at = [3, 35][random.below(2)];
             octets[at] = 4 + random.below(250) as u8;
         }
+        3 => octets = several_damages(random, &whole),
         _ => {
             let version = crate::counters::CountersVersion::Vlan;
             return encode_sample(&parts::counters(random, version)).octets;
@@ -72,15 +75,16 @@ fn packet_data(random: &mut Random) -> PacketData {
     }
 }
 
-/// Header data with an IPv4 packet, sometimes cut, changed in one octet, or
-/// under another protocol.
+/// Header data with an IPv4 packet, sometimes cut, changed in one to four
+/// places, or under another protocol.
 fn packet_header(random: &mut Random) -> PacketData {
     let carrier = CARRIERS[random.below(CARRIERS.len())];
     let mut header = carried(carrier, &packet(random));
     header.truncate(MAX_HEADER_SIZE as usize);
-    match random.below(6) {
-        0 => header.truncate(random.below(header.len() + 1)),
+    match random.below(8) {
+        0 => cut(random, &mut header, carrier),
         1 => change_one(random, &mut header),
+        2 => change_several(random, &mut header, carrier),
         _ => {}
     }
     let protocol = match random.below(12) {
@@ -88,6 +92,38 @@ fn packet_header(random: &mut Random) -> PacketData {
         _ => carrier,
     };
     header_data(protocol, header)
+}
+
+/// Where the IPv4 packet begins that a header protocol carries.
+fn packet_begin(carrier: u32) -> usize {
+    carried(carrier, &[]).len()
+}
+
+/// Cuts the octets anywhere, or about the least header's or the header's end.
+fn cut(random: &mut Random, header: &mut Vec<u8>, carrier: u32) {
+    let begin = packet_begin(carrier);
+    let words = header.get(begin).map_or(5, |octet| octet & 15);
+    let ends = [
+        random.below(header.len() + 1),
+        begin + LEAST_IPV4_OCTETS,
+        begin + 4 * usize::from(words),
+    ];
+    let end = ends[random.below(ends.len())];
+    header.truncate((end + random.below(6)).saturating_sub(1));
+}
+
+/// Changes two to four of the places that decide what a packet tells, half of
+/// the time in one octet; one of the changes may be a cut.
+fn change_several(random: &mut Random, header: &mut Vec<u8>, carrier: u32) {
+    let begin = packet_begin(carrier);
+    let places = [12, 13, begin, begin + 9];
+    for turn in random.several(places.len()) {
+        if random.below(5) == 0 {
+            cut(random, header, carrier);
+        } else if let Some(octet) = header.get_mut(places[turn]) {
+            *octet ^= 1 << random.below(8);
+        }
+    }
 }
 
 /// Changes one of the first octets, or of the two with the Ethernet type.
@@ -101,13 +137,24 @@ fn change_one(random: &mut Random, header: &mut [u8]) {
     }
 }
 
+/// Any IP protocol: half of the time one with ports, at times one that differs
+/// from these in one bit.
+fn ip_protocol(random: &mut Random) -> u8 {
+    let with_ports = [TCP, UDP][random.below(2)];
+    match random.below(8) {
+        0..=2 => random.hyper() as u8,
+        3 => with_ports ^ 1 << random.below(8),
+        _ => with_ports,
+    }
+}
+
 /// An IPv4 packet with random addresses and ports.
 fn packet(random: &mut Random) -> Vec<u8> {
     let form = Ipv4Form {
-        version: [4, 4, 4, 4, 4, 4, 6, 5][random.below(8)],
-        words: [5, 5, 5, 5, 6, 15, 4, 10][random.below(8)],
-        protocol: [6, 17, 6, 17, 1, 47][random.below(6)],
-        behind: [0, 1, 2, 3, 4, 4, 5, 20][random.below(8)],
+        version: [4, 4, 4, 4, 4, 4, 4, 4, 4, 4, 6, 5][random.below(12)],
+        words: [5, 5, 5, 5, 5, 6, 4, random.below(16) as u8][random.below(8)],
+        protocol: ip_protocol(random),
+        behind: [0, 1, 2, 3, 4, 4, 4, 5, 8, 20][random.below(10)],
     };
     let mut octets = form.octets();
     let (fixed, behind) = (12..20, form.header_length()..form.header_length() + 4);

@@ -3,6 +3,7 @@
 
 use crate::cases::octets_of;
 use crate::counters::CountersVersion;
+use crate::crowded_writes::crowded_call;
 use crate::damage::scramble;
 use crate::encoder::{encode_extended_data, encode_packet_data, encode_sample};
 use crate::grammar::MAX_DATAGRAM_SIZE;
@@ -13,11 +14,12 @@ use crate::value::*;
 use crate::write_calls::*;
 use crate::writer::GivenAddress;
 
-/// A call of any function.
+/// A call of any function, at times with several faults.
 pub fn any_call(random: &mut Random) -> WriteCall {
-    match random.below(8) {
+    match random.below(10) {
         0 => start_call(random),
         1..=3 => append_call(random),
+        4 | 5 => crowded_call(random),
         _ => form_call(random),
     }
 }
@@ -65,7 +67,7 @@ fn buffer_length(random: &mut Random, limit: usize) -> usize {
 }
 
 /// So many octets, all the same or, if they are few, all different.
-fn random_fill(random: &mut Random, length: usize) -> Vec<u8> {
+pub fn random_fill(random: &mut Random, length: usize) -> Vec<u8> {
     if length < 300 {
         random.octets(length)
     } else {
@@ -126,7 +128,7 @@ fn choice(random: &mut Random, greatest: u32) -> u32 {
 }
 
 /// An address, mostly of a type in the grammar; all 16 octets are set.
-fn given_address(random: &mut Random) -> GivenAddress {
+pub fn given_address(random: &mut Random) -> GivenAddress {
     GivenAddress {
         address_type: choice(random, 2),
         octets: random.array(),
@@ -160,7 +162,7 @@ fn count_near(random: &mut Random, number: usize) -> u32 {
 }
 
 /// The values of a flow sample, mostly right.
-fn flow_values(random: &mut Random) -> FlowValues {
+pub fn flow_values(random: &mut Random) -> FlowValues {
     let packet = encode_packet_data(&parts::packet_data(random)).octets;
     let count = random.below(4);
     let entries = (0..count).map(|_| parts::extended_data(random));
@@ -176,7 +178,7 @@ fn flow_values(random: &mut Random) -> FlowValues {
 }
 
 /// The values of a counter sample, mostly right.
-fn counters_values(random: &mut Random) -> CountersValues {
+pub fn counters_values(random: &mut Random) -> CountersValues {
     let version = choice(random, 7);
     let known = CountersVersion::from_number(version).unwrap_or(CountersVersion::Vlan);
     let mut numbers = match parts::counters(random, known) {
@@ -213,12 +215,16 @@ fn form_call(random: &mut Random) -> WriteCall {
     };
     // What the values call for, where they are in the grammar.
     let mut enough = vec![0; 4096];
-    let needed = write.carry_out(&mut enough).unwrap_or(60);
-    let length = match random.below(8) {
-        0 => needed.saturating_sub(1),
-        1 => random.below(needed + 1),
-        2..=4 => needed,
-        _ => needed + random.below(50),
+    let answer = write.carry_out(&mut enough);
+    let length = match (answer, random.below(8)) {
+        (Ok(needed), 0) => needed.saturating_sub(1),
+        (Ok(needed), 1) => random.below(needed + 1),
+        (Ok(needed), 2..=4) => needed,
+        (Ok(needed), _) => needed + random.below(50),
+        // Too short for any form, or for some, or long enough.
+        (Err(_), 0..=2) => random.below(12),
+        (Err(_), 3 | 4) => random.below(100),
+        (Err(_), _) => 400,
     };
     WriteCall {
         buffer: random_fill(random, length),

@@ -107,7 +107,8 @@ fn wrong_field(random: &mut Random, rules: &mut [Rule], number: u32) {
     }
 }
 
-fn no_attribute(random: &mut Random) -> u8 {
+/// A number of no attribute.
+pub fn no_attribute(random: &mut Random) -> u8 {
     let wrong: Vec<u8> = (0..=u8::MAX)
         .filter(|&number| !is_attribute(number))
         .collect();

@@ -11,6 +11,7 @@ use crate::encoder::encode;
 use crate::framing::{file_of, first_string};
 use crate::generator::valid_datagrams;
 use crate::random::Random;
+use crate::reader_situations::reader_situations;
 
 /// The seed of the set that the program `vectors` writes.
 pub const SEED: u64 = 3176;
@@ -20,6 +21,8 @@ pub const SEED: u64 = 3176;
 pub enum Part {
     /// A case of the scope.
     Case,
+    /// A situation written by hand.
+    Situation,
     /// A valid datagram.
     Valid,
     /// A damaged datagram.
@@ -37,7 +40,8 @@ pub struct Vector {
     pub octets: Vec<u8>,
 }
 
-/// The set for a seed: the reader's cases, then the seed's vectors.
+/// The set for a seed: the reader's cases and situations, then the seed's
+/// vectors.
 pub fn vectors(seed: u64) -> Vec<Vector> {
     let first = cases().into_iter().map(|case| Vector {
         part: Part::Case,
@@ -46,8 +50,8 @@ pub fn vectors(seed: u64) -> Vec<Vector> {
     first.chain(seeded(seed)).collect()
 }
 
-/// The vectors that come from a seed. No octets come twice among them; the
-/// octets of cases 1 and 2 are among them too.
+/// The situations and the vectors that come from a seed. No octets come twice
+/// among them; the octets of cases 1 and 2 are among them too.
 fn seeded(seed: u64) -> Vec<Vector> {
     let mut random = Random::new(seed);
     let valid = valid_datagrams(&mut random);
@@ -55,7 +59,10 @@ fn seeded(seed: u64) -> Vec<Vector> {
         .iter()
         .map(|datagram| encode(datagram).octets)
         .collect();
-    let parts: [(Part, Vec<Vec<u8>>); 3] = [
+    let situations = reader_situations().into_iter();
+    let situations = situations.map(|situation| situation.octets).collect();
+    let parts: [(Part, Vec<Vec<u8>>); 4] = [
+        (Part::Situation, situations),
         (Part::Valid, valid),
         (Part::Damaged, damaged(&mut random)),
         (Part::EdgeLength, edge_lengths(&mut random)),

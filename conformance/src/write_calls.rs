@@ -181,6 +181,40 @@ impl CountersValues {
     }
 }
 
+/// A sample to be appended: its octets, or its values.
+#[derive(Clone, Debug, PartialEq, Eq)]
+pub enum Appended {
+    /// What should be the sample's octets.
+    Octets(Vec<u8>),
+    /// The values of a flow sample.
+    Flow(FlowValues),
+    /// The values of a counter sample.
+    Counters(CountersValues),
+}
+
+impl Appended {
+    /// The call that appends it to a datagram of this length.
+    pub fn write(self, limit: usize, length: usize) -> Write {
+        match self {
+            Appended::Octets(sample) => Write::Append {
+                limit,
+                length,
+                sample,
+            },
+            Appended::Flow(flow) => Write::AppendFlow {
+                limit,
+                length,
+                flow,
+            },
+            Appended::Counters(counters) => Write::AppendCounters {
+                limit,
+                length,
+                counters,
+            },
+        }
+    }
+}
+
 impl Write {
     /// Calls the function on this buffer.
     pub fn carry_out(&self, buffer: &mut [u8]) -> Result<usize, u32> {

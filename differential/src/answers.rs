@@ -1,5 +1,6 @@
 //! Answers: a number, and the numbers that a lent array takes.
 
+use crate::case::Case;
 use crate::tally::{Tally, Told};
 
 /// The numbers of an array before a call; no function answers this one.
@@ -42,11 +43,12 @@ pub fn has_taken(array: &[u64], room: usize, numbers: &[u64]) -> bool {
 pub fn compare_answer(
     tally: &mut Tally,
     function: &str,
-    input: &dyn Fn() -> String,
+    input: &dyn Fn() -> Case,
     second: &Answer,
     call: &dyn Fn(&mut [u64]) -> u32,
 ) -> Array {
-    let short = tally.comparisons() as usize / 2 % (second.numbers.len() + 1);
+    let usual = tally.comparisons() as usize / 2 % (second.numbers.len() + 1);
+    let short = tally.room(usual).min(ROOM);
     compare_in(tally, function, input, second, call, short);
     compare_in(tally, function, input, second, call, ROOM)
 }
@@ -55,7 +57,7 @@ pub fn compare_answer(
 fn compare_in(
     tally: &mut Tally,
     function: &str,
-    input: &dyn Fn() -> String,
+    input: &dyn Fn() -> Case,
     second: &Answer,
     call: &dyn Fn(&mut [u64]) -> u32,
     room: usize,
@@ -64,7 +66,7 @@ fn compare_in(
     let number = call(&mut array[..room]);
     let same = number == second.number && has_taken(&array, room, &second.numbers);
     tally.compare(same, function, || Told {
-        input: format!("{} array of {room}", input()),
+        input: input().number("room", room),
         ours: numbers_text(number, &array),
         second: numbers_text(second.number, &second.numbers),
     });

@@ -2,6 +2,7 @@
 
 use conformance::inputs::{flow_samples, octet_changes, rule_octet_changes, truncations};
 
+use crate::parts::Inputs;
 use crate::reading::{compare_datagram, compare_items_at};
 use crate::rule_sets::{compare_check, compare_run};
 use crate::tally::Tally;
@@ -11,7 +12,7 @@ const SAMPLES: u64 = 1;
 
 /// Compares on all of them. Every item is read at every offset of every beginning, and at an
 /// offset of every changed datagram.
-pub fn compare_all(tally: &mut Tally) {
+pub fn compare_all(tally: &mut Tally, _: &Inputs) {
     for octets in truncations() {
         tally.input();
         compare_datagram(tally, &octets);

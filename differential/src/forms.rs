@@ -4,6 +4,8 @@ use conformance::write_calls::{FlowValues, Write};
 
 use crate::answers::FILL_OCTET;
 use crate::calls;
+use crate::case::{Case, Wrong};
+use crate::given_values::*;
 use crate::item_numbers::*;
 
 const HEADER: u32 = 1;
@@ -61,6 +63,88 @@ impl Form {
             SEGMENT => 1,
             _ => self.words.len(),
         }
+    }
+
+    /// The form and its buffer as a case.
+    pub fn case(&self, buffer: &[u8]) -> Case {
+        Case::new("form")
+            .octets("buffer", buffer)
+            .number("kind", self.kind)
+            .numbers("words", self.words.iter().copied())
+            .octets("first", &self.first)
+            .octets("second", &self.second)
+    }
+
+    /// The form of a case.
+    pub fn of_case(case: &Case) -> Result<Form, Wrong> {
+        Ok(Form {
+            kind: case.number_of("kind")?,
+            words: case.numbers_of("words")?,
+            first: case.octets_of("first")?,
+            second: case.octets_of("second")?,
+        })
+    }
+
+    /// The call of the form; nothing where the kind is none or has another number of words.
+    pub fn call(&self) -> Option<Write> {
+        let words = self.words.as_slice();
+        let (first, second) = (self.first.clone(), self.second.clone());
+        Some(match (self.kind, words) {
+            (HEADER, &[protocol, frame_length]) => Write::Header {
+                protocol,
+                frame_length,
+                header: first,
+            },
+            (IPV4, _) => Write::Ipv4(ipv4_of(words.try_into().ok()?)),
+            (IPV6, _) => Write::Ipv6(ipv6_of(words.try_into().ok()?)),
+            (SWITCH, _) => Write::Switch(switch_of(words.try_into().ok()?)),
+            (ROUTER, &[kind, a, b, c, d, src_mask, dst_mask]) => Write::Router {
+                nexthop: address_of([kind, a, b, c, d]),
+                src_mask,
+                dst_mask,
+            },
+            (GATEWAY, _) => return self.gateway_call(),
+            (SEGMENT, &[kind, ref numbers @ ..]) => Write::Segment {
+                kind,
+                numbers: numbers.to_vec(),
+            },
+            (USER, []) => Write::User {
+                src_user: first,
+                dst_user: second,
+            },
+            (URL, &[direction]) => Write::Url {
+                direction,
+                url: first,
+            },
+            (FLOW, _) => return self.flow_call(),
+            _ => return None,
+        })
+    }
+
+    fn gateway_call(&self) -> Option<Write> {
+        let &[a, b, c, segments, local_preference, ref communities @ ..] = self.words.as_slice()
+        else {
+            return None;
+        };
+        Some(Write::Gateway {
+            words: [a, b, c],
+            segments,
+            segment_octets: self.first.clone(),
+            communities: communities.to_vec(),
+            local_preference,
+        })
+    }
+
+    fn flow_call(&self) -> Option<Write> {
+        let &[ref words @ .., entries] = self.words.as_slice() else {
+            return None;
+        };
+        Some(Write::Flow(FlowValues {
+            words: words.try_into().ok()?,
+            packet_octets: self.first.clone(),
+            entries,
+            entry_octets: self.second.clone(),
+        }))
     }
 
     /// Writes the form to a buffer.

@@ -6,7 +6,9 @@ use conformance::random::Random;
 
 use crate::answers::{has_taken, numbers_text, FILL, FILL_OCTET, ROOM};
 use crate::calls;
+use crate::case::{Case, Wrong};
 use crate::expected_lines::{listed, Listed, BAD_RECORD, OUTPUT};
+use crate::parts::Inputs;
 use crate::tally::{Tally, Told};
 use crate::text::{from_difference, hex};
 
@@ -30,19 +32,36 @@ const LENGTHS: [usize; 12] = [
 ];
 
 /// Compares on the captures of a seed.
-pub fn compare_all(tally: &mut Tally, seed: u64, scale: usize) {
-    let mut random = Random::new(!seed);
-    for capture in captures(seed).take(CAPTURES.saturating_mul(scale)) {
+pub fn compare_all(tally: &mut Tally, inputs: &Inputs) {
+    let mut random = Random::new(!inputs.seed);
+    for capture in captures(inputs.seed).take(inputs.count(CAPTURES)) {
         tally.input();
-        let second = list(&capture);
         for ends in [whole(&capture), cut(&mut random, &capture)] {
             let length = output_length(&mut random);
-            compare_listing(tally, &capture, &ends, length, &second);
+            compare_listing(tally, &capture, &ends, length);
         }
-        compare_from_any_state(tally, &mut random, &capture);
-        compare_short_state(tally, &mut random, &capture);
+        let (state, length) = (any_counts(&mut random), random.below(3_000));
+        compare_call(tally, &capture, length, state);
+        compare_short_state(tally, &capture, random.below(STATE));
         compare_any_end(tally, &mut random);
     }
+}
+
+/// Compares on a kept input.
+pub fn compare_case(tally: &mut Tally, case: &Case) -> Result<(), Wrong> {
+    let capture = || case.octets_of("capture");
+    let length = || case.number_of("output").map(|own| LINES_ROOM.min(own));
+    match case.kind() {
+        "listing" => compare_listing(tally, &capture()?, &case.numbers_of("ends")?, length()?),
+        "lines" => compare_call(tally, &capture()?, length()?, case.array_of("state")?),
+        "short-state" => compare_short_state(tally, &capture()?, case.number_of("numbers")?),
+        _ => {
+            let room = tally.room(0).min(ROOM);
+            let counts = case.array_of("counts")?;
+            compare_end(tally, counts, case.number_of("bad")?, length()?, room);
+        }
+    }
+    Ok(())
 }
 
 /// One part.
@@ -72,26 +91,30 @@ fn output_length(random: &mut Random) -> usize {
 }
 
 /// Lists a capture in parts; each call, and the whole text with its last lines, is compared.
-fn compare_listing(
-    tally: &mut Tally,
-    capture: &[u8],
-    ends: &[usize],
-    length: usize,
-    second: &[u8],
-) {
-    let mut listing = Listing::default();
-    for &end in ends {
-        if !listing.list_part(tally, capture, end, length) {
-            break;
+fn compare_listing(tally: &mut Tally, capture: &[u8], ends: &[usize], length: usize) {
+    let input = || {
+        let ends = ends.iter().map(|&end| end as u64);
+        Case::new("listing")
+            .octets("capture", capture)
+            .numbers("ends", ends)
+            .number("output", length)
+    };
+    tally.guarded(&input, |tally| {
+        let second = list(capture);
+        let mut listing = Listing::default();
+        for &end in ends {
+            if !listing.list_part(tally, capture, end, length) {
+                break;
+            }
         }
-    }
-    let bad = listing.bad || listing.taken < capture.len();
-    let text = &mut listing.text;
-    text.extend(end_lines(listing.state, bad));
-    tally.compare(text == second, "sflow4_lines to the end", || Told {
-        input: format!("{} parts up to {ends:?} output of {length}", hex(capture)),
-        ours: String::from_utf8_lossy(text).into_owned(),
-        second: String::from_utf8_lossy(second).into_owned(),
+        let bad = listing.bad || listing.taken < capture.len();
+        let text = &mut listing.text;
+        text.extend(end_lines(listing.state, bad));
+        tally.compare(*text == second, "sflow4_lines to the end", || Told {
+            input: input(),
+            ours: String::from_utf8_lossy(text).into_owned(),
+            second: String::from_utf8_lossy(&second).into_owned(),
+        });
     });
 }
 
@@ -156,7 +179,7 @@ fn compare_lines(
     };
     let same = ours == second && stays;
     tally.compare(same, "sflow4_lines", || Told {
-        input: format!("{} state {before:?} output of {length}", hex(capture)),
+        input: lines_case(capture, length, before),
         ours: call_text(&ours, &second),
         second: call_text(&second, &ours),
     });
@@ -168,11 +191,19 @@ fn call_text(own: &Listed, other: &Listed) -> String {
     format!("{} {:?} output {output}", own.answer, own.state)
 }
 
+fn lines_case(capture: &[u8], length: usize, before: [u64; 4]) -> Case {
+    Case::new("lines")
+        .octets("capture", capture)
+        .number("output", length)
+        .numbers("state", before)
+}
+
 /// One call behind any numbers, such as are near 2^64.
-fn compare_from_any_state(tally: &mut Tally, random: &mut Random, capture: &[u8]) {
-    let state = any_counts(random);
-    let length = random.below(3_000);
-    compare_lines(tally, capture, length, state);
+fn compare_call(tally: &mut Tally, capture: &[u8], length: usize, state: [u64; 4]) {
+    let input = || lines_case(capture, length, state);
+    tally.guarded(&input, |tally| {
+        compare_lines(tally, capture, length, state);
+    });
 }
 
 fn any_counts(random: &mut Random) -> [u64; 4] {
@@ -184,14 +215,16 @@ fn any_counts(random: &mut Random) -> [u64; 4] {
 }
 
 /// A state of fewer than six numbers is refused; nothing is changed.
-fn compare_short_state(tally: &mut Tally, random: &mut Random, capture: &[u8]) {
-    let room = random.below(STATE);
+fn compare_short_state(tally: &mut Tally, capture: &[u8], room: usize) {
+    let room = room.min(STATE - 1);
     let mut output = [FILL_OCTET; 1_000];
     let mut state = [FILL; STATE];
     let answer = calls::lines(capture, &mut output, &mut state[..room]);
     let stays = state == [FILL; STATE] && output == [FILL_OCTET; 1_000];
     tally.compare(answer == 99 && stays, "sflow4_lines", || Told {
-        input: format!("{} state of {room} numbers", hex(capture)),
+        input: Case::new("short-state")
+            .octets("capture", capture)
+            .number("numbers", room),
         ours: numbers_text(answer, &state),
         second: "99, nothing changed (the header)".into(),
     });
@@ -210,6 +243,11 @@ fn compare_any_end(tally: &mut Tally, random: &mut Random) {
     let counts = any_counts(random);
     let bad = [0, 1, u32::MAX, random.word()][random.below(4)];
     let length = END_ROOM - 2 + random.below(6);
+    compare_end(tally, counts, bad, length, random.below(3));
+}
+
+/// Compares what follows the last record for these numbers, into an output of this length.
+fn compare_end(tally: &mut Tally, counts: [u64; 4], bad: u32, length: usize, room: usize) {
     let (number, text) = match length < END_ROOM {
         true => (20, Vec::new()),
         false => (0, end_text(counts, bad != 0)),
@@ -219,11 +257,14 @@ fn compare_any_end(tally: &mut Tally, random: &mut Random) {
     expected.resize(length + BEHIND, FILL_OCTET);
     let mut output = vec![FILL_OCTET; length + BEHIND];
     let mut array = [FILL; ROOM];
-    let room = random.below(3);
     let ours = calls::end_lines(&mut output[..length], counts, bad, &mut array[..room]);
     let same = ours == number && output == expected && has_taken(&array, room, &numbers);
     tally.compare(same, "sflow4_end_lines", || Told {
-        input: format!("{counts:?} bad {bad} output of {length} array of {room}"),
+        input: Case::new("end-lines")
+            .numbers("counts", counts)
+            .number("bad", bad)
+            .number("output", length)
+            .number("room", room),
         ours: format!("{} {}", numbers_text(ours, &array), hex(&output)),
         second: format!("{} {}", numbers_text(number, &numbers), hex(&expected)),
     });

@@ -7,20 +7,25 @@ mod appends;
 mod arguments;
 #[path = "../../rust/src/calls.rs"]
 mod calls;
+mod case;
 mod exhaustive;
 mod expected_lines;
 mod forms;
+mod given_values;
 mod item_numbers;
+mod kept;
 mod ledger;
 mod lines;
 mod parts;
 mod random_appends;
 mod reading;
+mod replaying;
 mod rewriting;
 mod rule_sets;
 mod tally;
 mod text;
 mod walking;
+mod write_cases;
 mod writing;
 
 use std::env;

@@ -264,6 +264,41 @@ pub fn border_appends() -> Vec<AppendCall> {
     calls
 }
 
+/// Counts of samples about which the count word's octets change, and the greatest that leaves room
+/// for one more of the least.
+const MANY: [usize; 5] = [254, 255, 256, 1_023, 1_363];
+
+/// A datagram of so many samples, the least that there are.
+fn datagram_of_many(random: &mut Random, count: usize) -> Vec<u8> {
+    let counters = parts::counters(random, CountersVersion::Vlan);
+    let datagram = Datagram {
+        agent_address: Address::IpV4(random.array()),
+        sequence_number: random.word(),
+        uptime: random.word(),
+        samples: vec![counters; count],
+    };
+    encode(&datagram).octets
+}
+
+/// Calls behind so many samples that the count's octets change.
+pub fn appends_behind_many() -> Vec<AppendCall> {
+    let mut random = Random::new(1);
+    let samples = border_samples(&mut random);
+    let mut calls = Vec::new();
+    for count in MANY {
+        let datagram = datagram_of_many(&mut random, count);
+        for sample in &samples {
+            let call = Append {
+                limit: MAX_DATAGRAM_SIZE,
+                length: datagram.len(),
+                sample: sample.clone(),
+            };
+            calls.push((lent(&datagram, MAX_DATAGRAM_SIZE, 0), call));
+        }
+    }
+    calls
+}
+
 /// Calls with every limit up to behind the buffer's end.
 fn about_the_end(datagram: &[u8], sample: &Given) -> Vec<AppendCall> {
     let so_far = datagram.len();

@@ -5,9 +5,10 @@ use conformance::reader::Reading;
 
 use crate::answers::FILL_OCTET;
 use crate::calls;
+use crate::case::Case;
 use crate::forms::{done, entry_form, narrowed, octets_at};
 use crate::tally::{Tally, Told};
-use crate::text::{from_difference, hex};
+use crate::text::from_difference;
 use crate::writing::BEHIND;
 
 /// The least limit.
@@ -28,7 +29,7 @@ pub fn compare_rewriting(tally: &mut Tally, octets: &[u8], reading: &Reading) {
 
 /// Compares with a limit: the same octets where they fit, otherwise the samples before the first
 /// that does not, and a refusal for it.
-fn compare_within(tally: &mut Tally, octets: &[u8], reading: &Reading, limit: usize) {
+pub fn compare_within(tally: &mut Tally, octets: &[u8], reading: &Reading, limit: usize) {
     let (second, expected) = fitting(octets, reading, limit);
     let mut buffer = vec![FILL_OCTET; limit + BEHIND];
     let mut length = 0;
@@ -38,7 +39,9 @@ fn compare_within(tally: &mut Tally, octets: &[u8], reading: &Reading, limit: us
     let stays = behind.iter().all(|&octet| octet == FILL_OCTET);
     let same = ours == second && length == expected.len() && front == expected && stays;
     tally.compare(same, "a datagram written again", || Told {
-        input: format!("{} limit {limit}", hex(octets)),
+        input: Case::new("rewriting")
+            .octets("octets", octets)
+            .number("limit", limit),
         ours: format!(
             "{ours:?} length {length} {}",
             from_difference(front, &expected)

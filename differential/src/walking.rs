@@ -8,6 +8,7 @@ use conformance::value::*;
 use crate::answers::{compare_answer, Answer};
 use crate::calls;
 use crate::item_numbers::*;
+use crate::reading::datagram_case;
 use crate::tally::{Tally, Told};
 use crate::text::hex;
 
@@ -35,7 +36,7 @@ fn compare_sample(
     places: &SamplePlaces,
 ) -> u64 {
     let numbers = sample_numbers(octets, sample, places.sample, &places.strings);
-    let input = || format!("{} at {at}", hex(octets));
+    let input = || datagram_case(octets).number("at", at);
     let call = |out: &mut [u64]| calls::sample(octets, at as usize, out);
     let second = Answer::new(0, numbers);
     let array = compare_answer(tally, "sflow4_sample", &input, &second, &call);
@@ -91,7 +92,7 @@ fn compare_entry(
     let item = item_at(octets, at as usize, read_extended_data);
     let next = item.map_or(0, |item| item.next);
     let numbers = extended_numbers(at as usize, entry, next, strings);
-    let input = || format!("{} at {at}", hex(octets));
+    let input = || datagram_case(octets).number("at", at);
     let call = |out: &mut [u64]| calls::extended(octets, at as usize, out);
     let second = Answer::new(0, numbers);
     let array = compare_answer(tally, "sflow4_extended", &input, &second, &call);
@@ -128,7 +129,7 @@ fn compare_gateway(tally: &mut Tally, octets: &[u8], array: &[u64], own: &Extend
 fn compare_segment(tally: &mut Tally, octets: &[u8], at: u64, segment: &AsPath) -> u64 {
     let item = item_at(octets, at as usize, read_path_segment);
     let next = item.map_or(0, |item| item.next);
-    let input = || format!("{} at {at}", hex(octets));
+    let input = || datagram_case(octets).number("at", at);
     let call = |out: &mut [u64]| calls::segment(octets, at as usize, out);
     let second = Answer::new(0, segment_numbers(at as usize, segment, next));
     let array = compare_answer(tally, "sflow4_segment", &input, &second, &call);
@@ -147,7 +148,7 @@ fn compare_string(tally: &mut Tally, octets: &[u8], place: &[u64], second: &[u8]
     let end = place[0].wrapping_add(place[1]) as usize;
     let ours = octets.get(place[0] as usize..end);
     tally.compare(ours == Some(second), "a string's place", || Told {
-        input: hex(octets),
+        input: datagram_case(octets),
         ours: format!("offset {} length {}", place[0], place[1]),
         second: hex(second),
     });
@@ -156,7 +157,7 @@ fn compare_string(tally: &mut Tally, octets: &[u8], place: &[u64], second: &[u8]
 /// Compares the offset behind the last item of a list with where it must be.
 fn compare_end(tally: &mut Tally, octets: &[u8], what: &str, ours: u64, second: usize) {
     tally.compare(ours == second as u64, what, || Told {
-        input: hex(octets),
+        input: datagram_case(octets),
         ours: ours.to_string(),
         second: second.to_string(),
     });

@@ -4,6 +4,8 @@ use std::collections::BTreeSet;
 
 use conformance::capture::first_datagram;
 use conformance::captures::{large_captures, refused_datagrams, small_captures, NamedCapture};
+use conformance::listing::list;
+use conformance::listing_cases::listing_cases;
 use conformance::reader::read;
 use conformance::value::{ExtendedData, PacketData, Sample};
 
@@ -155,4 +157,13 @@ fn names_are_different_and_the_small_ones_are_small() {
         .sum();
     assert!(octets < 70_000, "{octets}");
     assert_eq!(small_captures(), small_captures());
+}
+
+#[test]
+fn situations_have_the_texts_stated() {
+    for case in listing_cases() {
+        let text = String::from_utf8(list(&case.capture)).expect("text");
+        let shown = &case.capture[..case.capture.len().min(300)];
+        assert_eq!(text, case.text, "{shown:02x?}");
+    }
 }

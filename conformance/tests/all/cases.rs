@@ -1,10 +1,14 @@
 //! The reader's cases of the rules, and further octets written by hand.
 
+use std::collections::BTreeSet;
+
 use conformance::cases::{beginning, cases, header_datagram, octets_of, Stated};
 use conformance::counters::CountersVersion;
 use conformance::cursor::Span;
 use conformance::encoder::encode;
 use conformance::reader::{read, Reading};
+use conformance::reader_edges::long_situations;
+use conformance::reader_situations::{every_form, reader_situations};
 use conformance::value::*;
 
 /// The number and place with which the octets are refused.
@@ -161,4 +165,28 @@ fn cut_string_is_refused_at_its_first_octet() {
     // A non-zero padding octet is there, but the last padding octet is not.
     let whole = header_datagram(5, &[1, 2, 3, 4, 5, 9, 9]);
     assert_eq!(refused(&whole[..79]), Some((1, 72)));
+}
+
+#[test]
+fn situations_are_answered_as_stated() {
+    let mut wrong = Vec::new();
+    for situation in [reader_situations(), long_situations()].concat() {
+        let answer = refused(&situation.octets);
+        if answer != situation.stated {
+            let (words, stated) = (situation.words, situation.stated);
+            wrong.push(format!("{words}: {answer:?}, stated {stated:?}"));
+        }
+    }
+    assert!(wrong.is_empty(), "{wrong:#?}");
+}
+
+#[test]
+fn the_datagram_of_the_situations_has_every_number() {
+    assert_eq!(every_form().len(), 252);
+    let situations = [reader_situations(), long_situations()].concat();
+    let stated = situations
+        .iter()
+        .map(|own| own.stated.map_or(0, |(n, _)| n));
+    let numbers: BTreeSet<u32> = stated.collect();
+    assert_eq!(numbers, BTreeSet::from_iter(0..=14));
 }

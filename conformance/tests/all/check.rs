@@ -3,14 +3,20 @@
 use std::collections::BTreeSet;
 
 use conformance::check::check;
-use conformance::check_cases::check_cases;
+use conformance::check_cases::{check_cases, CheckCase};
+use conformance::check_pairs::{check_pairs, IMPOSSIBLE};
 use conformance::rules::RULE_OCTETS;
+
+/// The number and the rule named; nothing if accepted.
+fn answered(case: &CheckCase) -> Option<(u32, usize)> {
+    check(&case.set).err().map(|own| (own.number, own.rule))
+}
 
 #[test]
 fn situations_are_answered_as_stated() {
     let mut wrong = Vec::new();
     for case in check_cases() {
-        let answer = check(&case.set).err().map(|r| (r.number, r.rule));
+        let answer = answered(&case);
         if answer != case.stated {
             wrong.push(format!(
                 "{}: {answer:?}, stated {:?}",
@@ -44,4 +50,28 @@ fn situations_have_every_refusal_at_every_place() {
         stated.extend(["first", "middle", "last"].map(|place| (number, place)));
     }
     assert_eq!(found, stated);
+}
+
+#[test]
+fn every_pair_that_one_rule_can_break_is_there() {
+    let found: BTreeSet<(u32, u32)> = check_pairs().iter().map(|case| case.pair).collect();
+    let above = |lower| (lower + 1..=39).map(move |higher| (lower, higher));
+    let mut stated: BTreeSet<(u32, u32)> = (31..=39).flat_map(above).collect();
+    assert_eq!(stated.len(), 36);
+    stated.retain(|pair| !IMPOSSIBLE.contains(pair));
+    assert_eq!(found, stated);
+}
+
+/// Without the lower fault the rule is named with the higher number, so it
+/// breaks both; with it, with the lower one.
+#[test]
+fn a_rule_with_two_faults_gets_the_lower_number() {
+    for case in check_pairs() {
+        let (lower, higher) = case.pair;
+        let given = |own: &CheckCase| answered(own).map(|(number, _)| number);
+        assert_eq!(given(&case.both), Some(lower), "{}", case.both.words);
+        assert_eq!(given(&case.mended), Some(higher), "{}", case.mended.words);
+        assert_eq!(answered(&case.both), case.both.stated);
+        assert_eq!(answered(&case.mended), case.mended.stated);
+    }
 }

@@ -3,15 +3,22 @@
 
 use std::collections::BTreeMap;
 
+use conformance::attribute_vectors::attribute_vectors;
 use conformance::attributes::{attributes, exact_flow_sample};
+use conformance::captures::small_captures;
 use conformance::check::check;
+use conformance::check_cases::check_cases;
 use conformance::engine::engine;
 use conformance::inputs::*;
 use conformance::ledger::Table;
 use conformance::ledger_records::carry_out;
 use conformance::listing::list;
+use conformance::listing_cases::listing_cases;
 use conformance::reader::read;
+use conformance::reader_edges::long_situations;
+use conformance::vectors::vectors;
 use conformance::write_calls::Write;
+use conformance::write_cases::write_cases;
 
 /// How often each answer comes.
 type Counts<T> = BTreeMap<T, usize>;
@@ -32,7 +39,8 @@ fn reader_number(octets: &[u8]) -> u32 {
 #[test]
 fn datagrams_get_every_answer() {
     // Those behind the vectors, which have every answer of themselves.
-    let further = || datagrams(5).skip(2000).take(20_000);
+    let first = vectors(5).len() + long_situations().len();
+    let further = || datagrams(5).skip(first).take(20_000);
     let counts = counted(further().map(|octets| reader_number(&octets)));
     for number in 0..=14 {
         let least = if number == 14 { 3 } else { 30 };
@@ -68,7 +76,7 @@ fn check_number(set: &[u8]) -> u32 {
 
 #[test]
 fn rule_sets_get_every_answer() {
-    let sets = rule_sets(5).skip(3000).take(4000);
+    let sets = rule_sets(5).skip(check_cases().len()).take(4000);
     let counts = counted(sets.map(|set| check_number(&set)));
     for number in (30..40).chain([0]) {
         assert!(counts.get(&number) >= Some(&20), "{number}: {counts:?}");
@@ -85,7 +93,7 @@ fn rule_octet_changes_get_every_answer_but_that_of_the_length() {
 
 #[test]
 fn flow_samples_have_every_attribute() {
-    let samples = flow_samples(5).skip(1000).take(5000);
+    let samples = flow_samples(5).skip(attribute_vectors(5).len()).take(5000);
     let flows = samples.map(|octets| exact_flow_sample(&octets));
     let known = flows.map(|flow| flow.map(|flow| attributes(&flow).values()));
     let known: Vec<Option<[u32; 10]>> = known.collect();
@@ -156,7 +164,7 @@ fn possible(name: &str) -> &'static [u32] {
 
 #[test]
 fn writes_get_every_answer_that_is_possible() {
-    let calls = writes(5).take(20_000);
+    let calls = writes(5).skip(write_cases().len()).take(20_000);
     let counts = counted(calls.map(|call| {
         let (answer, after) = call.carried_out();
         assert_eq!(after.len(), call.buffer.len());
@@ -179,7 +187,9 @@ fn writes_get_every_answer_that_is_possible() {
 
 #[test]
 fn captures_end_well_and_badly() {
-    let texts = captures(5).take(600).map(|capture| list(&capture));
+    let first = small_captures().len() + listing_cases().len();
+    let texts = captures(5).skip(first).take(600);
+    let texts = texts.map(|capture| list(&capture));
     let bad = |text: Vec<u8>| String::from_utf8_lossy(&text).contains("capture bad at");
     let counts = counted(texts.map(bad));
     assert!(counts[&true] > 150 && counts[&false] > 150, "{counts:?}");
@@ -188,16 +198,21 @@ fn captures_end_well_and_badly() {
 #[test]
 fn inputs_depend_on_the_seed_alone() {
     let some = |seed| {
-        let octets = datagrams(seed).skip(2000).take(50);
-        let sets = rule_sets(seed).skip(2000).take(50);
-        let samples = flow_samples(seed).skip(1000).take(50);
-        let captures = captures(seed).skip(10).take(20);
+        let first = vectors(seed).len() + long_situations().len();
+        let octets = datagrams(seed).skip(first).take(50);
+        let sets = rule_sets(seed).skip(check_cases().len()).take(50);
+        let samples = flow_samples(seed).skip(attribute_vectors(seed).len());
+        let samples = samples.take(50);
+        let first = small_captures().len() + listing_cases().len();
+        let captures = captures(seed).skip(first).take(20);
         octets.chain(sets).chain(samples).chain(captures).collect()
     };
     let (one, again, other): (Vec<_>, Vec<_>, Vec<_>) = (some(1), some(1), some(2));
     assert_eq!(one, again);
     assert!(one.iter().zip(&other).filter(|(a, b)| a == b).count() < 40);
-    assert_eq!(writes(1).nth(99), writes(1).nth(99));
+    let last = write_cases().len() + 99;
+    assert_eq!(writes(1).nth(last), writes(1).nth(last));
+    assert_ne!(writes(1).nth(last), writes(2).nth(last));
     assert_eq!(pairs(1).nth(2000), pairs(1).nth(2000));
     assert_eq!(ledger_runs(1).nth(3), ledger_runs(1).nth(3));
 }

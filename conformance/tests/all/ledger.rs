@@ -2,6 +2,7 @@
 
 use conformance::ledger::LedgerFault::*;
 use conformance::ledger::*;
+use conformance::row_cases::row_cases;
 
 /// Agent 10.0.0.7 with this source id.
 fn source(id: u32) -> Source {
@@ -333,4 +334,37 @@ fn a_row_opened_by_lending_counts_when_it_is_the_lowest() {
     let table = taken(table, sample(source(1), 6, 10));
     assert_eq!(table.rows[2], row(source(1), 6, 10, (0, 3)));
     assert_eq!(table.rows[8], high);
+}
+
+/// A row lent by itself, and one of a full table, in which the same comes of
+/// a source that has its row there.
+#[test]
+fn situations_of_rows_are_answered_as_stated() {
+    for case in row_cases() {
+        let mut lent = case.before;
+        let answer = lend(&mut lent, &case.sample).map_err(LedgerFault::number);
+        assert_eq!(answer, case.stated.map(|_| ()), "{}", case.words);
+        assert_eq!(lent, case.stated.unwrap_or(case.before), "{}", case.words);
+        if case.stated == Err(43) {
+            continue;
+        }
+        for number in [0, 40, 63] {
+            let mut table = full();
+            table.rows[number] = case.before;
+            let mut after = table.clone();
+            after.rows[number] = case.stated.unwrap_or(case.before);
+            let answer = enter(&mut table, &case.sample).map_err(LedgerFault::number);
+            assert_eq!(answer, case.stated.map(|_| ()), "{}", case.words);
+            assert_eq!(table, after, "{}", case.words);
+        }
+    }
+}
+
+#[test]
+fn a_full_table_gives_40_to_every_source_without_a_row() {
+    for case in row_cases().iter().filter(|case| case.stated == Err(43)) {
+        let mut table = full();
+        table.rows[7] = case.before;
+        refused(table, case.sample, Full);
+    }
 }

@@ -5,6 +5,7 @@ mod attributes;
 mod captures;
 mod cases;
 mod check;
+mod crowded_inputs;
 mod dump_text;
 mod engine;
 mod inputs;

@@ -1,5 +1,7 @@
 //! The writer: datagrams in a lent buffer, and every form from values.
 
+use std::collections::BTreeSet;
+
 use conformance::cases::octets_of;
 use conformance::counters::CountersVersion;
 use conformance::encoder::{encode, encode_extended_data, encode_packet_data, encode_sample};
@@ -7,6 +9,7 @@ use conformance::generator::valid_datagrams;
 use conformance::random::Random;
 use conformance::reader::read;
 use conformance::value::*;
+use conformance::write_cases::write_cases;
 use conformance::writer::*;
 
 /// What a buffer holds before anything is written.
@@ -542,4 +545,51 @@ fn whole_datagrams_are_written_from_values() {
         }
         assert_eq!(buffer[..length], encode(&datagram).octets);
     }
+}
+
+#[test]
+fn situations_are_answered_as_stated() {
+    let mut wrong = Vec::new();
+    for case in write_cases() {
+        let before = &case.call.buffer;
+        let (answer, after) = case.call.carried_out();
+        let stated = case.stated.as_ref().map(Vec::len).map_err(|&number| number);
+        let begin: &[u8] = case.stated.as_deref().unwrap_or_default();
+        let buffer = [begin, before.get(begin.len()..).unwrap_or_default()].concat();
+        if answer != stated || after != buffer {
+            wrong.push(format!("{}: {answer:?}, stated {stated:?}", case.words));
+        }
+    }
+    assert!(wrong.is_empty(), "{wrong:#?}");
+}
+
+/// The faults that each function can have together, by the number given: the
+/// situations have every one of them.
+#[test]
+fn situations_have_every_answer_of_every_function() {
+    let mut found = BTreeSet::new();
+    for case in write_cases() {
+        let name = format!("{:?}", case.call.write);
+        let name = name
+            .split(['(', ' '])
+            .next()
+            .unwrap_or_default()
+            .to_string();
+        found.insert((name, case.stated.err().unwrap_or(0)));
+    }
+    let mut stated = BTreeSet::new();
+    let mut of = |names: &[&str], numbers: &[u32]| {
+        for name in names {
+            stated.extend(numbers.iter().map(|&number| (name.to_string(), number)));
+        }
+    };
+    of(&["Start"], &[0, 21, 22]);
+    of(
+        &["Append", "AppendFlow", "AppendCounters"],
+        &[0, 20, 21, 22, 23],
+    );
+    of(&["Ipv4", "Ipv6", "Switch", "User"], &[0, 20]);
+    of(&["Flow", "Counters", "Header", "Router"], &[0, 20, 22]);
+    of(&["Gateway", "Segment", "Url"], &[0, 20, 22]);
+    assert_eq!(found, stated);
 }
