@@ -92,7 +92,8 @@ FIGURES = (
     ('exported functions', lambda: len(tree.exported()), (rf'\*\*{NUMBER} functions\*\*', rf'That all\s+{NUMBER} meet', rf'no part of one of the {NUMBER},')),
     ('cases of document 01', lambda: sum(name.startswith('case_') for name in tree.tests('all_cases')), (rf'the {NUMBER} cases', rf'all {NUMBER} cases')),
     ('room for any record', lambda: found(ROOM, r'room-enough : [^\n]*≤ (\d+)'),
-     (rf'with {NUMBER} octets left takes', rf'and {NUMBER} octets of output take', rf'SFLOW4_LINES_ROOM = {NUMBER},', rf'const LINES_ROOM: usize = {NUMBER};')),
+     (rf'with {NUMBER} octets left takes', rf'and {NUMBER} octets of output take', rf'SFLOW4_LINES_ROOM = {NUMBER},', rf'const LINES_ROOM: usize = {NUMBER};',
+      rf'roomForAny = {NUMBER}')),
     ('most samples of a datagram', lambda: found(ROOM, r'samples-few : [^\n]*≤ (\d+)'), (rf'has at most {NUMBER} samples',)),
     ('room for a record', lambda: found(RECORDS, r'\(Found h\) = (\d+) \+'),
      (rf'\b{NUMBER} octets,? and \d+ (?:a|for each) sample', rf'const RECORD_ROOM: usize = {NUMBER};')),
@@ -118,7 +119,7 @@ FIGURES = (
     ('instructions for flows written', measured(r'flows, written\s+([\d,]+)'), (rf'against [\d,]+ and {NUMBER} from values',)),
 )
 # sources that say figures of their own beside the documents
-SOURCES = ('rust/src/listing.rs', 'differential/src/lines.rs', 'differential/src/expected_lines.rs')
+SOURCES = ('rust/src/listing.rs', 'differential/src/lines.rs', 'differential/src/expected_lines.rs', 'crates/lister/specs/Held.antt')
 
 
 def places(pattern):
