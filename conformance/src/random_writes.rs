@@ -188,8 +188,9 @@ pub fn counters_values(random: &mut Random) -> CountersValues {
     match random.below(12) {
         0 => numbers.push(0),
         1 => drop(numbers.pop()),
-        2 => {
-            let place = random.below(numbers.len());
+        2 | 3 => {
+            let last = numbers.len().saturating_sub(1);
+            let place = [0, last, random.below(numbers.len())][random.below(3)];
             if let Some(number) = numbers.get_mut(place) {
                 *number = (1 << 32) - random.below(2) as u64;
             }
