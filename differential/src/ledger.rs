@@ -14,7 +14,7 @@ use crate::parts::Inputs;
 use crate::tally::{Tally, Told};
 
 /// Runs at scale 1.
-const RUNS: usize = 2_000;
+const RUNS: usize = 1_000;
 
 /// The numbers of a table, and of one of its rows.
 const NUMBERS: usize = 704;

@@ -13,7 +13,7 @@ use crate::tally::{Tally, Told};
 use crate::text::{from_difference, hex};
 
 /// Captures at scale 1.
-const CAPTURES: usize = 80_000;
+const CAPTURES: usize = 40_000;
 
 /// Octets of output that take any record, and that the last lines ask for.
 const LINES_ROOM: usize = 222_796;

@@ -15,7 +15,7 @@ use crate::tally::Tally;
 use crate::walking::compare_samples;
 
 /// Datagrams at scale 1.
-const DATAGRAMS: usize = 400_000;
+const DATAGRAMS: usize = 200_000;
 
 /// Compares on the datagrams of a seed.
 pub fn compare_all(tally: &mut Tally, inputs: &Inputs) {

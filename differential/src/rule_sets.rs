@@ -14,10 +14,10 @@ use crate::parts::Inputs;
 use crate::tally::Tally;
 
 /// Rule sets at scale 1.
-const SETS: usize = 250_000;
+const SETS: usize = 125_000;
 
 /// Pairs at scale 1.
-const PAIRS: usize = 250_000;
+const PAIRS: usize = 125_000;
 
 /// Where the key's masks and values begin in the engine's array, and how many numbers it takes.
 const MASKS: usize = 2;

@@ -18,13 +18,13 @@ use crate::text::{from_difference, hex};
 use crate::write_cases::*;
 
 /// Calls at scale 1.
-const CALLS: usize = 600_000;
+const CALLS: usize = 300_000;
 
 /// Appends from values at scale 1, besides those among the calls.
-const APPENDS: usize = 120_000;
+const APPENDS: usize = 60_000;
 
 /// Datagrams at scale 1; the accepted ones are written again.
-const DATAGRAMS: usize = 60_000;
+const DATAGRAMS: usize = 30_000;
 
 /// Octets behind a buffer; they stay.
 pub const BEHIND: usize = 16;
