@@ -5,6 +5,7 @@ pub mod Measure
 pub mod Invariant
 pub mod Records
 pub mod Opcodes
+pub mod Flags
 pub mod Accepted
 pub mod CheckAnswers
 pub mod Demand

@@ -3,7 +3,7 @@
 use Prim.Native.Nat.{ℕ, _+_, _^_, _≤_}
 use mathlib.Core.Path.{_≡_}
 use mathlib.Core.Logic.{_⊎_, _≢_}
-use mathlib.Core.Bool.{true, false}
+use mathlib.Core.Bool.{Bool, true, false}
 use mathlib.Core.List.{List, [], _∷_}
 use lib.ListN.{length}
 use Rattle.rules.specs.declared.Rule.{Rule}
@@ -11,7 +11,7 @@ use Rattle.rules.specs.declared.Declared.{Declared}
 use Rattle.rules.specs.declared.Item.{Item}
 use Rattle.rules.specs.declared.MachineAnswer.{MachineAnswer}
 use Rattle.rules.specs.declared.MachineAnswer.the-variants.{NoMatch}
-use Rattle.rules.specs.Opcodes.{machineNumber}
+use Rattle.rules.specs.Opcodes.{TestFlag, sets, ends, machineNumber}
 use Rattle.rules.specs.Records.{hasRule}
 use Rattle.rules.specs.Machine.{MachineState, Outcome, running, ended, stuck, testFails, after}
 
@@ -40,6 +40,15 @@ pub record MachineWithin (n : ℕ) (rule : ℕ → Rule) (at : ℕ → ℕ) (mos
 -- none of n rules is a Gosub or a GosubAct
 abbrev pub WithoutGosub : ℕ → (ℕ → Rule) → Type 0
 WithoutGosub n rule = (i : ℕ) → 1 ≤ i → i ≤ n → (rule i .opcode ≢ 6) × (rule i .opcode ≢ 7)
+
+-- ---- document 01's flags
+
+-- what the goto flag and the test flag of an opcode say of the outcome of its action with parameter p: where the machine runs on, the test flag has set the
+-- indicator, and with the goto flag it is at rule p; where it has ended, the test flag says so
+abbrev pub ByFlags : Bool → TestFlag → ℕ → Outcome → Type 0
+ByFlags goto test p (running s) = (test ≡ sets (s .testing)) × (goto ≡ true → s .number ≡ p)
+ByFlags goto test p (ended answer items rules) = test ≡ ends
+ByFlags goto test p stuck = Unit {0}
 
 -- ---- what it ends with
 

@@ -1,8 +1,10 @@
--- What opcodes do (RFC 2722, section 4.4; document 01, "Rule sets"): one table.
-use Prim.Native.Nat.{ℕ}
+-- What opcodes do, and their flags (RFC 2722, section 4.4; document 01, "Rule sets"): a table each.
+use Prim.Native.Nat.{ℕ, _%_, _≤_}
+use mathlib.Core.Path.{_≡_}
 use mathlib.Core.List.{List, [], _∷_}
-use mathlib.Core.Bool.{Bool, true, false}
+use mathlib.Core.Bool.{Bool, true, false, cond}
 use lib.ListN.{getD}
+use lib.Dec.{eqb}
 use Rattle.rules.specs.declared.Action.{Action}
 use Rattle.rules.specs.declared.Action.the-variants.{Unknown, Ignore, NoMatch, Count, CountPkt, Return, Gosub, Goto, PushRule, PushPkt, PopTo}
 use Rattle.rules.specs.declared.MachineAnswer.{MachineAnswer}
@@ -71,3 +73,62 @@ gotoFlag (Goto t) = true
 gotoFlag (PushRule t) = true
 gotoFlag (PushPkt t) = true
 gotoFlag (PopTo t) = true
+
+-- the test flag: what the action sets the test indicator to; nothing where the machine does not go on
+pub data TestFlag : Type 0 where
+  sets : Bool → TestFlag
+  ends : TestFlag
+
+abbrev pub on : TestFlag
+on = sets true
+
+abbrev pub off : TestFlag
+off = sets false
+
+abbrev pub testFlag : Action → TestFlag
+testFlag Unknown = ends
+testFlag Ignore = ends
+testFlag NoMatch = ends
+testFlag Count = ends
+testFlag CountPkt = ends
+testFlag Return = off
+testFlag (Gosub t) = sets t
+testFlag (Goto t) = sets t
+testFlag (PushRule t) = sets t
+testFlag (PushPkt t) = sets t
+testFlag (PopTo t) = sets t
+
+-- ---- document 01's table of flags
+
+pub record Flags : Type 0 where
+  pub opcode : ℕ
+  pub goto : Bool
+  pub test : TestFlag
+
+abbrev pub flagged : ℕ → Bool → TestFlag → Flags
+flagged opcode goto test = record { opcode = opcode; goto = goto; test = test }
+
+-- Ignore, NoMatch, Count, CountPkt; Return; Gosub, Assign, Goto, PushRuleTo, PushPktTo and PopTo, each with its Act
+abbrev pub flags : List Flags
+flags =
+    flagged 1 false ends ∷ flagged 2 false ends ∷ flagged 3 false ends ∷ flagged 4 false ends
+    ∷ flagged 5 false off
+    ∷ flagged 6 true on ∷ flagged 7 true off
+    ∷ flagged 8 true on ∷ flagged 9 true off
+    ∷ flagged 10 true on ∷ flagged 11 true off
+    ∷ flagged 12 true on ∷ flagged 13 true off
+    ∷ flagged 14 true on ∷ flagged 15 true off
+    ∷ flagged 16 true on ∷ flagged 17 true off
+    ∷ []
+
+-- the flags that a table has for an opcode; one that is not in it goes nowhere and sets nothing
+abbrev pub flagsIn : List Flags → ℕ → Flags
+flagsIn [] opcode = flagged opcode false ends
+flagsIn (f ∷ l) opcode = cond (eqb (f .opcode) opcode) f (flagsIn l opcode)
+
+unfoldable pub flagsOf : ℕ → Flags
+flagsOf opcode = flagsIn flags opcode
+
+-- the flag rule: from opcode 6 up the goto flag is always set, and the test flag is on exactly for even numbers
+abbrev pub FlagRule : Type 0
+FlagRule = (opcode : ℕ) → 6 ≤ opcode → opcode ≤ 17 → (flagsOf opcode .goto ≡ true) × (flagsOf opcode .test ≡ sets (eqb (opcode % 2) 0))

@@ -1,10 +1,11 @@
 // Rule sets of RTFM meters (RFC 2722, section 4; document 01, "Rule sets"): rule records and what opcodes do. The machine, the check of a rule set
 // and what is proved of them are in specs/ and proofs/.
 ghost use mathlib.Core.Path.{_≡_};
+ghost use mathlib.Core.Bool.{true};
 ghost use Prim.Native.Nat.{_+_, _*_, _≤_};
 ghost use lib.ListN.{length};
 ghost use Rattle.xdr.specs.Items.{numbersAt};
-ghost use Rattle.rules.specs.Opcodes.{actionOf, machineNumber};
+ghost use Rattle.rules.specs.Opcodes.{actionOf, machineNumber, sets, flagsOf};
 ghost use Rattle.rules.specs.Records.{recordWidths, ruleIn, declaredIn, noRecord, recordOf};
 ghost use Rattle.rules.specs.Checks.{checkNumber};
 
@@ -112,28 +113,45 @@ pub fn refusal_number(why: CheckRefusal) -> u32
     }
 }
 
+// Whether an opcode's goto flag is set: always, from 6 up to the last, 17.
+fn goto_flag(opcode: u8) -> bool
+    ensures { λ r. ⌜ r ≡ flagsOf opcode .goto ⌝ }
+{
+    if opcode < 6 {
+        return false;
+    }
+    opcode <= 17
+}
+
+// The test flag of an opcode whose goto flag is set: on exactly for even numbers.
+fn test_flag(opcode: u8) -> bool
+    requires { ⌜ flagsOf opcode .goto ≡ true ⌝ }
+    ensures { λ r. ⌜ flagsOf opcode .test ≡ sets r ⌝ }
+{
+    opcode % 2 == 0
+}
+
 // What an opcode does.
 pub fn action_of(opcode: u8) -> Action
     ensures { λ r. ⌜ r ≡ actionOf opcode ⌝ }
 {
+    if goto_flag(opcode) {
+        let test = test_flag(opcode);
+        return match opcode {
+            6 | 7 => Action::Gosub(test),
+            12 | 13 => Action::PushRule(test),
+            14 | 15 => Action::PushPkt(test),
+            16 | 17 => Action::PopTo(test),
+            // a Goto, or an Assign, which only goes to its parameter
+            _ => Action::Goto(test),
+        };
+    }
     match opcode {
         1 => Action::Ignore,
         2 => Action::NoMatch,
         3 => Action::Count,
         4 => Action::CountPkt,
         5 => Action::Return,
-        6 => Action::Gosub(true),
-        7 => Action::Gosub(false),
-        8 => Action::Goto(true),
-        9 => Action::Goto(false),
-        10 => Action::Goto(true),
-        11 => Action::Goto(false),
-        12 => Action::PushRule(true),
-        13 => Action::PushRule(false),
-        14 => Action::PushPkt(true),
-        15 => Action::PushPkt(false),
-        16 => Action::PopTo(true),
-        17 => Action::PopTo(false),
         _ => Action::Unknown,
     }
 }
