@@ -1,24 +1,23 @@
 -- What the check says of a rule set that it accepts. Assumes nothing.
-use Prim.Native.Nat.{ℕ, zero, suc, _*_, _%_, _≤_, _<_}
+use Prim.Native.Nat.{ℕ, zero, suc, _*_, _%_, _≤_}
 use native.Mathlib.Omega.{arith}
-use mathlib.Core.Path.{_≡_, refl, ap, sym, _∙_}
-use mathlib.Core.List.{List, [], _∷_}
-use mathlib.Core.Bool.{Bool, true, false, not, cond, _&&_, _||_}
-use lib.ListN.{length, getD, drop}
+use mathlib.Core.Path.{_≡_, refl, sym}
+use mathlib.Core.List.{List}
+use mathlib.Core.Bool.{Bool, true, false, not, cond, _||_}
+use lib.ListN.{length}
 use lib.Dec.{ltb, leb, eqb}
-use borrow.Author.Tests.{leb-true, leb-false, ltb-false, eqb-false, eqb-true, not-false}
-use Rattle.xdr.proofs.Tests.{and-parts}
-use Rattle.rules.specs.declared.Action.{Action}
-use Rattle.rules.specs.declared.Action.the-variants.{Unknown, Ignore, NoMatch, Count, CountPkt, Return, Gosub, Goto, PushRule, PushPkt, PopTo}
+use borrow.Author.Tests.{leb-true, leb-false, ltb-false, eqb-false, eqb-true, not-false, lt-ltb}
+use Rattle.rules.specs.declared.Action.the-variants.{Unknown}
 use Rattle.rules.specs.declared.RuleCheck.{RuleCheck}
 use Rattle.rules.specs.declared.RuleCheck.the-variants.{Fine, Breaks}
 use Rattle.rules.specs.declared.CheckRefusal.{CheckRefusal}
 use Rattle.rules.specs.declared.CheckAnswer.{CheckAnswer}
 use Rattle.rules.specs.declared.CheckAnswer.the-variants.{Accepted, Refused}
-use Rattle.rules.specs.Opcodes.{actions, actionOf}
+use Rattle.rules.specs.Opcodes.{actionOf}
 use Rattle.rules.specs.Records.{ruleCount, recordOf, ruleOf, declaredOf}
 use Rattle.rules.specs.Checks.{formOf, known, badOpcode, aloneOf, returnsNowhere, ruleCheck, named, orAnswer, firstBroken, badLength, check}
 use Rattle.rules.proofs.Tests.{true-false, or-false, fine-either, fine-both}
+use Rattle.rules.proofs.Opcodes.{every-opcode, opcodeFor}
 use Rattle.rules.proofs.Invariant.{Sound, sound}
 
 -- ---- the first rule that breaks one
@@ -44,32 +43,14 @@ all-fine f (suc k) e i l h = go (leb i k) refl (λ m. all-fine f k (both-accepte
 
 -- ---- an opcode of 1 to 17 has an action
 
-abbrev isSome : Action → Bool
-isSome Unknown = false
-isSome Ignore = true
-isSome NoMatch = true
-isSome Count = true
-isSome CountPkt = true
-isSome Return = true
-isSome (Gosub t) = true
-isSome (Goto t) = true
-isSome (PushRule t) = true
-isSome (PushPkt t) = true
-isSome (PopTo t) = true
-
-abbrev allSome : List Action → Bool
-allSome [] = true
-allSome (a ∷ l) = isSome a && allSome l
-
-at-all : (l : List Action) → allSome l ≡ true → (i : ℕ) → i < length l → isSome (getD l i Unknown) ≡ true
-at-all [] e i h = absurd (omega arith)
-at-all (a ∷ l) e zero h = and-parts _ _ e .0
-at-all (a ∷ l) e (suc i) h = at-all l (and-parts (isSome a) _ e .1) i (omega arith)
+abbrev acts : ℕ → Bool
+acts op = ltb 17 op || eqb op 0 || not (eqb (opcodeFor (actionOf op)) 0)
 
 has-action : (op : ℕ) → eqb op 0 ≡ false → ltb 17 op ≡ false → actionOf op ≡ Unknown → ⊥
 unfolding actionOf
-has-action zero z h e = eqb-false 0 0 z refl
-has-action (suc k) z h e = true-false (sym (at-all (drop 1 actions) refl k (omega (arith, ltb-false 17 (suc k) h))) ∙ ap isSome e)
+has-action op z h e =
+    let t : acts op ≡ true = every-opcode acts refl refl (λ o l. rw (lt-ltb 17 o l)) op in
+    true-false (sym (rw (z, h, e) at t))
 
 -- ---- an accepted rule set
 

@@ -1,10 +1,9 @@
 -- The flag rule against document 01's table of flags, the flags of the actions, and what the machine makes of them. Assumes nothing.
-use Prim.Native.Nat.{ℕ, zero, suc, _%_, _≤_, _<_}
+use Prim.Native.Nat.{ℕ, _%_, _≤_, _<_}
 use native.Mathlib.Omega.{arith}
 use mathlib.Core.Path.{_≡_, refl, ap, sym, _∙_}
 use mathlib.Core.List.{List, [], _∷_}
-use mathlib.Core.Bool.{Bool, true, false, not, cond, _&&_, _||_, Bool·beq}
-use lib.ListN.{List·getD-eq-default}
+use mathlib.Core.Bool.{Bool, true, false, not, _&&_, _||_, Bool·beq}
 use lib.Dec.{eqb, ltb, leb}
 use borrow.Author.Tests.{not-false, eqb-true, ne-eqb, leb-true, leb-false, le-leb, lt-leb, lt-ltb}
 use Rattle.xdr.proofs.Tests.{and-parts}
@@ -12,25 +11,12 @@ use Rattle.rules.specs.declared.Rule.{Rule}
 use Rattle.rules.specs.declared.Item.{Item}
 use Rattle.rules.specs.declared.Action.{Action}
 use Rattle.rules.specs.declared.Action.the-variants.{Unknown, Ignore, NoMatch, Count, CountPkt, Return, Gosub, Goto, PushRule, PushPkt, PopTo}
-use Rattle.rules.specs.Opcodes.{actions, actionOf, gotoFlag, testFlag, TestFlag, sets, ends, Flags, flagged, flags, flagsIn, flagsOf, FlagRule}
+use Rattle.rules.specs.Opcodes.{actionOf, gotoFlag, testFlag, TestFlag, sets, ends, Flags, flagged, flags, flagsIn, flagsOf, FlagRule}
 use Rattle.rules.specs.Machine.{comesBack, drops, act}
 use Rattle.rules.specs.Checks.{anyUpTo}
 use Rattle.rules.specs.Demand.{ByFlags}
 use Rattle.rules.proofs.Tests.{true-false, some-false}
-
--- ---- all opcodes at once
-
--- a test that holds of 0, of 1 to 17 as they are computed, and of what lies beyond, holds of every opcode
-every-opcode : (p : ℕ → Bool) → p 0 ≡ true → anyUpTo (λ o. not (p o)) 17 ≡ false → ((o : ℕ) → 17 < o → p o ≡ true) → (o : ℕ) → p o ≡ true
-every-opcode p z e f o = go (leb o 17) refl
-  where
-    here : (x : ℕ) → x ≤ 17 → p x ≡ true
-    here zero h = z
-    here (suc k) h = not-false _ (some-false (λ x. not (p x)) 17 e (suc k) (omega arith) h)
-
-    go : (b : Bool) → leb o 17 ≡ b → p o ≡ true
-    go true t = here o (leb-true _ _ t)
-    go false t = f o (leb-false _ _ t)
+use Rattle.rules.proofs.Opcodes.{every-opcode, no-action, opcodeFor, action-back}
 
 -- ---- flags that are the same
 
@@ -101,10 +87,6 @@ goto-between o e =
 
 -- ---- the actions have these flags
 
-no-action : (o : ℕ) → 17 < o → actionOf o ≡ Unknown
-unfolding actionOf
-no-action o h = List·getD-eq-default actions Unknown h
-
 abbrev hasFlags : ℕ → Bool
 hasFlags o = Bool·beq (gotoFlag (actionOf o)) (flagsOf o .goto) && same (testFlag (actionOf o)) (flagsOf o .test)
 
@@ -115,39 +97,6 @@ actions-flagged o =
     (same-bool _ _ (t .0), same-flag _ _ (t .1))
 
 -- ---- actions by their flags
-
--- an opcode of each action
-abbrev opcodeFor : Action → ℕ
-opcodeFor Unknown = 0
-opcodeFor Ignore = 1
-opcodeFor NoMatch = 2
-opcodeFor Count = 3
-opcodeFor CountPkt = 4
-opcodeFor Return = 5
-opcodeFor (Gosub t) = cond t 6 7
-opcodeFor (Goto t) = cond t 10 11
-opcodeFor (PushRule t) = cond t 12 13
-opcodeFor (PushPkt t) = cond t 14 15
-opcodeFor (PopTo t) = cond t 16 17
-
-action-back : (a : Action) → actionOf (opcodeFor a) ≡ a
-unfolding actionOf
-action-back Unknown = refl
-action-back Ignore = refl
-action-back NoMatch = refl
-action-back Count = refl
-action-back CountPkt = refl
-action-back Return = refl
-action-back (Gosub true) = refl
-action-back (Gosub false) = refl
-action-back (Goto true) = refl
-action-back (Goto false) = refl
-action-back (PushRule true) = refl
-action-back (PushRule false) = refl
-action-back (PushPkt true) = refl
-action-back (PushPkt false) = refl
-action-back (PopTo true) = refl
-action-back (PopTo false) = refl
 
 abbrev isOn : TestFlag → Bool
 isOn (sets t) = t

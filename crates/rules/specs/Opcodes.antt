@@ -108,17 +108,26 @@ pub record Flags : Type 0 where
 abbrev pub flagged : ℕ → Bool → TestFlag → Flags
 flagged opcode goto test = record { opcode = opcode; goto = goto; test = test }
 
--- Ignore, NoMatch, Count, CountPkt; Return; Gosub, Assign, Goto, PushRuleTo, PushPktTo and PopTo, each with its Act
+-- opcode, goto flag, test flag
 abbrev pub flags : List Flags
 flags =
-    flagged 1 false ends ∷ flagged 2 false ends ∷ flagged 3 false ends ∷ flagged 4 false ends
-    ∷ flagged 5 false off
-    ∷ flagged 6 true on ∷ flagged 7 true off
-    ∷ flagged 8 true on ∷ flagged 9 true off
-    ∷ flagged 10 true on ∷ flagged 11 true off
-    ∷ flagged 12 true on ∷ flagged 13 true off
-    ∷ flagged 14 true on ∷ flagged 15 true off
-    ∷ flagged 16 true on ∷ flagged 17 true off
+    flagged 1 false ends  -- Ignore
+    ∷ flagged 2 false ends  -- NoMatch
+    ∷ flagged 3 false ends  -- Count
+    ∷ flagged 4 false ends  -- CountPkt
+    ∷ flagged 5 false off  -- Return
+    ∷ flagged 6 true on  -- Gosub
+    ∷ flagged 7 true off  -- GosubAct
+    ∷ flagged 8 true on  -- Assign
+    ∷ flagged 9 true off  -- AssignAct
+    ∷ flagged 10 true on  -- Goto
+    ∷ flagged 11 true off  -- GotoAct
+    ∷ flagged 12 true on  -- PushRuleTo
+    ∷ flagged 13 true off  -- PushRuleToAct
+    ∷ flagged 14 true on  -- PushPktTo
+    ∷ flagged 15 true off  -- PushPktToAct
+    ∷ flagged 16 true on  -- PopTo
+    ∷ flagged 17 true off  -- PopToAct
     ∷ []
 
 -- the flags that a table has for an opcode; one that is not in it goes nowhere and sets nothing

@@ -1,3 +1,4 @@
 pub mod Cases
 pub mod Demands
 pub mod Lengths
+pub mod Requests

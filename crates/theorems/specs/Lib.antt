@@ -2,3 +2,4 @@ pub mod Inputs
 pub mod Cases
 pub mod Numbers
 pub mod Demands
+pub mod Requests
