@@ -1,3 +1,4 @@
+#![tactic(auto)]
 // Items of XDR (RFC 1832) read out of octets. Crate xdr_write writes them.
 // Every function answers for every slice and every offset, also an offset beyond the slice.
 ghost use Rattle.std.specs.Prelude.{◌≡◌, ◌+◌, ◌*◌, ◌≤◌, length};

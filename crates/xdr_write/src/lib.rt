@@ -1,3 +1,4 @@
+#![tactic(auto)]
 // Items of XDR (RFC 1832) written into octets.
 // Every function answers for every buffer and every offset, also an offset beyond the buffer; where an item does not fit, every octet stays.
 ghost use Rattle.std.specs.Prelude.{◌≡◌, ◌+◌, ◌≤◌, length, replicate};
