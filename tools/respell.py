@@ -91,7 +91,7 @@ def imported(text):
 
 
 def renamed(every):
-    table = {}
+    table = {'ended-so': 'ended_so', 'at-is': 'at_is'}  # port.py turned these where they are stated, and not everywhere
     for name in every:
         new = EXCEPTIONS.get(name, snake(name))
         if new != name:

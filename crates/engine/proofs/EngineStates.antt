@@ -41,10 +41,10 @@ stack_pop l (suc d) h = let e : suc d - 1 ≡ d = omega arith in rw e refl
 
 -- no two answers are held by the same number
 pub held_answer : (a : MachineAnswer) → answer_of (machine_number a) ≡ a
-held_answer answer.Ignore = refl
-held_answer answer.NoMatch = refl
-held_answer answer.Count = refl
-held_answer answer.CountPkt = refl
+held_answer Answer.Ignore = refl
+held_answer Answer.NoMatch = refl
+held_answer Answer.Count = refl
+held_answer Answer.CountPkt = refl
 
 -- ---- tests
 
@@ -101,8 +101,8 @@ module _ (rule : ℕ → Rule) (at : ℕ → ℕ) (m : EngineState) (h : Running
   unfolding failed_of fails
   failed n = go (ltb m.number n)
     where
-      go : (b : Bool) → outcome_of rule at (cond b (goes_of m (m.number + 1) true) (finishes_of m answer.NoMatch))
-          ≡ cond b (goes (m.number + 1) true (stack_of m.calls m.depth) (queued rule at m) (m.rules + 1)) (ended answer.NoMatch [] (m.rules + 1))
+      go : (b : Bool) → outcome_of rule at (cond b (goes_of m (m.number + 1) true) (finishes_of m Answer.NoMatch))
+          ≡ cond b (goes (m.number + 1) true (stack_of m.calls m.depth) (queued rule at m) (m.rules + 1)) (ended Answer.NoMatch [] (m.rules + 1))
       go true = rw h.answer
       go false = refl
 
@@ -129,6 +129,6 @@ module _ (n : ℕ) (m : EngineState) where
   unfolding failed_of
   goes_next h = rw (lt-ltb m.number n h)
 
-  pub ends_last : n ≤ m.number → finishes_of m answer.NoMatch ≡ failed_of n m
+  pub ends_last : n ≤ m.number → finishes_of m Answer.NoMatch ≡ failed_of n m
   unfolding failed_of
   ends_last h = rw (le-ltb m.number n h)

@@ -43,7 +43,7 @@ state_of rule at m =
 
 -- the answer that a state holds by its number
 abbrev pub answer_of : ℕ → MachineAnswer
-answer_of a = cond (eqb a 1) answer.Ignore (cond (eqb a 2) answer.NoMatch (cond (eqb a 3) answer.Count answer.CountPkt))
+answer_of a = cond (eqb a 1) Answer.Ignore (cond (eqb a 2) Answer.NoMatch (cond (eqb a 3) Answer.Count Answer.CountPkt))
 
 -- an answer of 0 is a machine that runs
 abbrev pub outcome_by : ℕ → MachineState → Outcome
@@ -153,10 +153,10 @@ counts_of m a =
 -- what an action with a parameter makes of the state
 unfoldable pub acted_of : Action → ℕ → EngineState → EngineState
 acted_of Unknown p m = m
-acted_of Ignore p m = finishes_of m answer.Ignore
-acted_of NoMatch p m = finishes_of m answer.NoMatch
-acted_of Count p m = counts_of m answer.Count
-acted_of CountPkt p m = counts_of m answer.CountPkt
+acted_of Ignore p m = finishes_of m Answer.Ignore
+acted_of NoMatch p m = finishes_of m Answer.NoMatch
+acted_of Count p m = counts_of m Answer.Count
+acted_of CountPkt p m = counts_of m Answer.CountPkt
 acted_of Return p m = comes_back_of m p
 acted_of (Gosub t) p m = calls_of m p t
 acted_of (Goto t) p m = goes_of m p t
@@ -166,7 +166,7 @@ acted_of (PopTo t) p m = pops_of m p t
 
 -- what a failed test makes of it, of n rules
 unfoldable pub failed_of : ℕ → EngineState → EngineState
-failed_of n m = cond (ltb m.number n) (goes_of m (m.number + 1) true) (finishes_of m answer.NoMatch)
+failed_of n m = cond (ltb m.number n) (goes_of m (m.number + 1) true) (finishes_of m Answer.NoMatch)
 
 -- ---- what holds while it runs
 

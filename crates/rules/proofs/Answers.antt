@@ -28,15 +28,15 @@ number_in (ended a items k) = machine_number a
 number_in stuck = 0
 
 abbrev answer_in : Outcome → MachineAnswer
-answer_in (running s) = answer.NoMatch
+answer_in (running s) = Answer.NoMatch
 answer_in (ended a items k) = a
-answer_in stuck = answer.NoMatch
+answer_in stuck = Answer.NoMatch
 
 not_zero : (a : MachineAnswer) → 0 ≡ machine_number a → ⊥
-not_zero answer.Ignore e = omega arith
-not_zero answer.NoMatch e = omega arith
-not_zero answer.Count e = omega arith
-not_zero answer.CountPkt e = omega arith
+not_zero Answer.Ignore e = omega arith
+not_zero Answer.NoMatch e = omega arith
+not_zero Answer.Count e = omega arith
+not_zero Answer.CountPkt e = omega arith
 
 -- ---- actions
 
@@ -67,10 +67,10 @@ act_number (PopTo t) op o r v i calls items k = inr (drop_number r.parameter t c
 -- the opcode with an answer's number ends with it
 act_ends : (a : MachineAnswer) (r : Rule) (v i : ℕ) (calls : List ℕ) (items : List Item) (k : ℕ) → EndedWith (act (action_of (machine_number a)) r v i calls items k) a
 unfolding act action_of
-act_ends answer.Ignore r v i calls items k = record { items = _; rules = _; ended_so = refl }
-act_ends answer.NoMatch r v i calls items k = record { items = _; rules = _; ended_so = refl }
-act_ends answer.Count r v i calls items k = record { items = _; rules = _; ended_so = refl }
-act_ends answer.CountPkt r v i calls items k = record { items = _; rules = _; ended_so = refl }
+act_ends Answer.Ignore r v i calls items k = record { items = _; rules = _; ended_so = refl }
+act_ends Answer.NoMatch r v i calls items k = record { items = _; rules = _; ended_so = refl }
+act_ends Answer.Count r v i calls items k = record { items = _; rules = _; ended_so = refl }
+act_ends Answer.CountPkt r v i calls items k = record { items = _; rules = _; ended_so = refl }
 
 -- ---- one step
 
@@ -82,19 +82,19 @@ module _ (n : ℕ) (rule : ℕ → Rule) (at : ℕ → ℕ) (s : MachineState) (
   acts o = act (action_of o) (rule s.number) (at (rule s.number).attribute) s.number s.calls s.items (s.rules + 1)
 
   -- what a failed test ends in
-  failed_last : has_rule n s.number ≡ true → (items : List Item) (k : ℕ) → fails n s ≡ ended a items k → (s.number ≡ n) × (a ≡ answer.NoMatch)
+  failed_last : has_rule n s.number ≡ true → (items : List Item) (k : ℕ) → fails n s ≡ ended a items k → (s.number ≡ n) × (a ≡ Answer.NoMatch)
   unfolding fails
   failed_last h items k = go (ltb s.number n) refl
     where
       go : (b : Bool) → ltb s.number n ≡ b
-          → cond b (goes (s.number + 1) true s.calls s.items (s.rules + 1)) (ended answer.NoMatch [] (s.rules + 1)) ≡ ended a items k
-          → (s.number ≡ n) × (a ≡ answer.NoMatch)
+          → cond b (goes (s.number + 1) true s.calls s.items (s.rules + 1)) (ended Answer.NoMatch [] (s.rules + 1)) ≡ ended a items k
+          → (s.number ≡ n) × (a ≡ Answer.NoMatch)
       go true t e = absurd (not_zero a (ap number_in e))
       go false t e = (omega (arith, ltb-false s.number n t, leb-true s.number n (and_parts (leb 1 s.number) (leb s.number n) h).1), sym (ap answer_in e))
 
   here : EndedWith (step n rule at s) a → EndsHere n rule at s a
   unfolding step
-  here w = go (has_rule n s.number) (test_fails rule at s) refl refl w.ended-so
+  here w = go (has_rule n s.number) (test_fails rule at s) refl refl w.ended_so
     where
       go : (b c : Bool) → has_rule n s.number ≡ b → test_fails rule at s ≡ c → cond b (cond c (fails n s) (acts op)) stuck ≡ ended a w.items w.rules
           → EndsHere n rule at s a
@@ -109,7 +109,7 @@ module _ (n : ℕ) (rule : ℕ → Rule) (at : ℕ → ℕ) (s : MachineState) (
   unfolding step fails
   from_here w = go w.so
     where
-      go : ((test_fails rule at s ≡ false) × (op ≡ machine_number a)) ⊎ ((test_fails rule at s ≡ true) × (s.number ≡ n) × (a ≡ answer.NoMatch))
+      go : ((test_fails rule at s ≡ false) × (op ≡ machine_number a)) ⊎ ((test_fails rule at s ≡ true) × (s.number ≡ n) × (a ≡ Answer.NoMatch))
           → EndedWith (step n rule at s) a
       go (inl (t, o)) =
           let x : EndedWith (acts op) a =
@@ -129,7 +129,7 @@ module _ (n : ℕ) (rule : ℕ → Rule) (at : ℕ → ℕ) (s : MachineState) (
 -- whatever it ends with, it has come to a rule that says so
 pub ends_somewhere : (n : ℕ) (rule : ℕ → Rule) (at : ℕ → ℕ) (k : ℕ) (a : MachineAnswer) → EndedWith (after n rule at k) a → EndsSomewhere n rule at a
 unfolding after advance
-ends_somewhere n rule at zero a w = absurd (not_zero a (ap number_in w.ended-so))
+ends_somewhere n rule at zero a w = absurd (not_zero a (ap number_in w.ended_so))
 ends_somewhere n rule at (suc k) a w = go (after n rule at k) refl w (ends_somewhere n rule at k a)
   where
     go : (o : Outcome) → after n rule at k ≡ o → EndedWith (advance n rule at o) a → (EndedWith (after n rule at k) a → EndsSomewhere n rule at a) → EndsSomewhere n rule at a
@@ -141,10 +141,10 @@ ends_somewhere n rule at (suc k) a w = go (after n rule at k) refl w (ends_somew
 
 abbrev Emptied : Outcome → Type 0
 Emptied (running s) = Unit {0}
-Emptied (ended answer.Ignore items k) = items ≡ []
-Emptied (ended answer.NoMatch items k) = items ≡ []
-Emptied (ended answer.Count items k) = Unit {0}
-Emptied (ended answer.CountPkt items k) = Unit {0}
+Emptied (ended Answer.Ignore items k) = items ≡ []
+Emptied (ended Answer.NoMatch items k) = items ≡ []
+Emptied (ended Answer.Count items k) = Unit {0}
+Emptied (ended Answer.CountPkt items k) = Unit {0}
 Emptied stuck = Unit {0}
 
 back_emptied : (calls : List ℕ) (p : ℕ) (items : List Item) (k : ℕ) → Emptied (comes_back calls p items k)
@@ -178,7 +178,7 @@ unfolding step fails
 step_emptied n rule at s =
     either (has_rule n s.number) _ _
     (either (test_fails rule at s) _ _
-    (either (ltb s.number n) (goes (s.number + 1) true s.calls s.items (s.rules + 1)) (ended answer.NoMatch [] (s.rules + 1)) tt refl)
+    (either (ltb s.number n) (goes (s.number + 1) true s.calls s.items (s.rules + 1)) (ended Answer.NoMatch [] (s.rules + 1)) tt refl)
     (act_emptied (action_of (rule s.number).opcode) (rule s.number) (at (rule s.number).attribute) s.number s.calls s.items (s.rules + 1)))
     tt
 
@@ -193,9 +193,9 @@ after_emptied n rule at (suc k) = go (after n rule at k) (after_emptied n rule a
     go stuck h = tt
 
 pub no_items : (n : ℕ) (rule : ℕ → Rule) (at : ℕ → ℕ) (k : ℕ) (a : MachineAnswer) (items : List Item) (c : ℕ) → after n rule at k ≡ ended a items c
-    → (a ≡ answer.Ignore) ⊎ (a ≡ answer.NoMatch) → items ≡ []
+    → (a ≡ Answer.Ignore) ⊎ (a ≡ Answer.NoMatch) → items ≡ []
 no_items n rule at k a items c e w = go w (subst Emptied e (after_emptied n rule at k))
   where
-    go : (a ≡ answer.Ignore) ⊎ (a ≡ answer.NoMatch) → Emptied (ended a items c) → items ≡ []
+    go : (a ≡ Answer.Ignore) ⊎ (a ≡ Answer.NoMatch) → Emptied (ended a items c) → items ≡ []
     go (inl i) h = subst (λ (b : MachineAnswer). Emptied (ended b items c)) i h
     go (inr m) h = subst (λ (b : MachineAnswer). Emptied (ended b items c)) m h

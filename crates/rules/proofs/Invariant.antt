@@ -133,8 +133,8 @@ module _ (n : ℕ) (rule : ℕ → Rule) (declared : ℕ → Declared) where
     back i hm cs is k (sub {g = g} {cs = ds} gl gh gs gd fr) e l h q z f₇ x f₉ =
         let p : ℕ = (rule i).parameter in
         let aim : aims n rule declared (declared i).home g ≡ true = rw gs (eq-eqb (rule g).parameter (declared i).home (sym e)) in
-        let inn : g + p ≤ n = leb-true (g + p) n (not-false _ (and_false _ _ (some_false _ n x g gl gh) aim)) in
-        let w = differs_false (declared (g + p)) (declared g).home (declared g).depth (declared i).held (and_false _ _ (some_false _ n f₉ g gl gh) aim) in
+        let inn : g + p ≤ n = leb-true (g + p) n (not-false _ (and_false _ _ (some_false (comes_back_nowhere n rule declared (declared i).home p) n x g gl gh) aim)) in
+        let w = differs_false (declared (g + p)) (declared g).home (declared g).depth (declared i).held (and_false _ _ (some_false (comes_back_otherwise n rule declared (declared i).home p (declared i).held) n f₉ g gl gh) aim) in
         let y : (p ≡ 0 → ⊥) = eqb-false p 0 f₇ in
         (record { low = omega arith; high = inn; depth = w.1 ∙ gd; held = w.2 ∙ q; frames = rw w.0 fr }, left_back n i g (g + p) ds (omega arith) h, refl)
 
@@ -230,7 +230,7 @@ module _ (n : ℕ) (rule : ℕ → Rule) (declared : ℕ → Declared) where
 
         go : (b : Bool) → ltb i n ≡ b
             → Good (left n i s.calls) (s.rules + 1)
-            (cond b (goes (i + 1) true s.calls s.items (s.rules + 1)) (ended answer.NoMatch [] (s.rules + 1)))
+            (cond b (goes (i + 1) true s.calls s.items (s.rules + 1)) (ended Answer.NoMatch [] (s.rules + 1)))
         go true t =
             let d : ltb i n && not (eqb (rule i).mask 0 && eqb (rule i).value 0) ≡ true = rw (t, zeros i f) in
             moves i (i + 1) s.calls s.items s.items true (s.rules + 1) (declared i).held v (omega arith) (omega (arith, ltb-true i n t))

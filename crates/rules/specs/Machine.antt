@@ -57,10 +57,10 @@ drops to t calls (x ∷ items) k = goes to t calls items k
 -- the action of rule number i at its attribute's value v, with k rules come to
 unfoldable pub act : Action → Rule → ℕ → ℕ → List ℕ → List Item → ℕ → Outcome
 act Unknown r v i calls items k = stuck
-act Ignore r v i calls items k = ended answer.Ignore [] k
-act NoMatch r v i calls items k = ended answer.NoMatch [] k
-act Count r v i calls items k = ended answer.Count (rule_item r ∷ items) k
-act CountPkt r v i calls items k = ended answer.CountPkt (packet_item r v ∷ items) k
+act Ignore r v i calls items k = ended Answer.Ignore [] k
+act NoMatch r v i calls items k = ended Answer.NoMatch [] k
+act Count r v i calls items k = ended Answer.Count (rule_item r ∷ items) k
+act CountPkt r v i calls items k = ended Answer.CountPkt (packet_item r v ∷ items) k
 act Return r v i calls items k = comes_back calls r.parameter items k
 act (Gosub t) r v i calls items k = goes r.parameter t (i ∷ calls) items k
 act (Goto t) r v i calls items k = goes r.parameter t calls items k
@@ -70,7 +70,7 @@ act (PopTo t) r v i calls items k = drops r.parameter t calls items k
 
 -- a failed test goes to the next rule, or ends in NoMatch after the last
 unfoldable pub fails : ℕ → MachineState → Outcome
-fails n s = cond (ltb s.number n) (goes (s.number + 1) true s.calls s.items (s.rules + 1)) (ended answer.NoMatch [] (s.rules + 1))
+fails n s = cond (ltb s.number n) (goes (s.number + 1) true s.calls s.items (s.rules + 1)) (ended Answer.NoMatch [] (s.rules + 1))
 
 -- the indicator is on, and the test of the rule that a state has come to fails
 abbrev pub test_fails : (ℕ → Rule) → (ℕ → ℕ) → MachineState → Bool

@@ -24,10 +24,10 @@ action_of opcode = get_or actions opcode Unknown
 
 -- the number of each answer: the opcode whose name it is
 abbrev pub machine_number : MachineAnswer → ℕ
-machine_number answer.Ignore = 1
-machine_number answer.NoMatch = 2
-machine_number answer.Count = 3
-machine_number answer.CountPkt = 4
+machine_number Answer.Ignore = 1
+machine_number Answer.NoMatch = 2
+machine_number Answer.Count = 3
+machine_number Answer.CountPkt = 4
 
 abbrev pub is_return : Action → Bool
 is_return Unknown = false

@@ -1,3 +1,4 @@
+#![tactic(auto)]
 // Rule sets of RTFM meters (RFC 2722, section 4; document 01, "Rule sets"): rule records and what opcodes do. The machine, the check of a rule set
 // and what is proved of them are in specs/ and proofs/.
 ghost use Rattle.std.specs.Prelude.{◌≡◌, true, ◌+◌, ◌*◌, ◌≤◌, length};

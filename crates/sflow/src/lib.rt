@@ -1,3 +1,4 @@
+#![tactic(auto)]
 // sFlow version 4 datagrams (RFC 3176, section 4): why a datagram is refused. The grammar itself, what reading by it finds and what is
 // proved of it are in specs/ and proofs/.
 ghost use Rattle.std.specs.Prelude.{◌≡◌};

@@ -84,7 +84,7 @@ made_is : (n : EntryAnswer) (z : Row) → Is An.the_row n (answer_val n ∷ []) 
 made_is n z n-is z-is = LL.owes E.the_type E'.the_laws (made n z) (n-is, (z-is, tt))
 
 made_of : (n : EntryAnswer) (z : Row) {r : RowEntered} → (n ≡ r.answer) × (z ≡ r.row) → made n z ≡ r
-made_of n z e = λ i. made (e.0 i) (e.1 i)
+made_of n z e = λ i. made (E.0 i) (E.1 i)
 
 -- an answer's value, spelt out
 told : (n : EntryAnswer) (w : Val) → Is An.the_row n (w ∷ []) → Is An.the_row n (answer_val n ∷ [])
