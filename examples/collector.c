@@ -18,8 +18,8 @@
 #include <sys/socket.h>
 #include <unistd.h>
 
-/* Counts TCP and UDP packets by protocol and destination port (0 in all but the first fragment of a packet), all other IP
- * packets together. A record is mark, attribute, opcode; mask; value; parameter, home, depth, held. */
+/* Counts TCP and UDP packets by protocol and destination port, all other IP packets together. A record is mark, attribute,
+ * opcode; mask; value; parameter, home, depth, held. */
 static const uint8_t RULES[] = {
     /* 1: SourcePeerType is 0, the packet is not seen to be IP: Ignore */
     0x52, 0x75, 8, 1, 255, 255, 255, 255, 0, 0, 0, 0, 0, 0, 0, 0,

@@ -411,22 +411,19 @@ enum {
     RTFM_RUN_NUMBERS = 48
 };
 
-/* Attributes of a flow sample, by their numbers in RFC 2722. IPv4 and IPv6 data give them directly. A sampled header that
- * holds no IPv4 packet leaves all but the interfaces 0. One that does has ports where the protocol is TCP or UDP, their
- * four octets were sampled and the packet's fragment offset is 0 (only that fragment has the transport header); else both
- * ports are 0, while addresses and protocol stay. */
+/* Attributes of a flow sample, by their numbers in RFC 2722. */
 enum {
-    RTFM_NULL = 0,                  /* nothing: a test of it always succeeds */
-    RTFM_SOURCE_INTERFACE = 4,      /* the sample's input */
-    RTFM_SOURCE_PEER_TYPE = 8,      /* 1 for IPv4, 2 for IPv6, else 0 */
-    RTFM_SOURCE_PEER_ADDRESS = 9,   /* the IPv4 source address; 0 for IPv6 */
-    RTFM_SOURCE_TRANS_TYPE = 11,    /* the IP protocol */
-    RTFM_SOURCE_TRANS_ADDRESS = 12, /* the source port */
-    RTFM_DEST_INTERFACE = 14,       /* the sample's output */
-    RTFM_DEST_PEER_TYPE = 18,       /* 1 for IPv4, 2 for IPv6, else 0 */
-    RTFM_DEST_PEER_ADDRESS = 19,    /* the IPv4 destination address; 0 for IPv6 */
-    RTFM_DEST_TRANS_TYPE = 21,      /* the IP protocol */
-    RTFM_DEST_TRANS_ADDRESS = 22    /* the destination port */
+    RTFM_NULL = 0,
+    RTFM_SOURCE_INTERFACE = 4,
+    RTFM_SOURCE_PEER_TYPE = 8,
+    RTFM_SOURCE_PEER_ADDRESS = 9,
+    RTFM_SOURCE_TRANS_TYPE = 11,
+    RTFM_SOURCE_TRANS_ADDRESS = 12,
+    RTFM_DEST_INTERFACE = 14,
+    RTFM_DEST_PEER_TYPE = 18,
+    RTFM_DEST_PEER_ADDRESS = 19,
+    RTFM_DEST_TRANS_TYPE = 21,
+    RTFM_DEST_TRANS_ADDRESS = 22
 };
 
 /* Runs a rule set on a flow sample, both as octets; the sample from its type word to its end.

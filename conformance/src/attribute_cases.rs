@@ -4,7 +4,6 @@
 use crate::attributes::{Attributes, Peers, ETHERNET, ETHERNET_IPV4, IPV4, PEER_IPV4, PEER_IPV6};
 use crate::cases::octets_of;
 use crate::encoder::encode_sample;
-use crate::fragment_cases::fragment_cases;
 use crate::grammar::{FIRST_HEADER_PROTOCOL, LAST_HEADER_PROTOCOL};
 use crate::packets::*;
 use crate::value::*;
@@ -36,7 +35,6 @@ pub fn attribute_cases() -> Vec<AttributeCase> {
         header_protocols(),
         read_both_ways(),
         fields_passed_over(),
-        fragment_cases(),
         no_flow_samples(),
         long_samples(),
     ]
@@ -44,7 +42,7 @@ pub fn attribute_cases() -> Vec<AttributeCase> {
 }
 
 /// The octets, and the packet's values stated for them.
-pub fn case(words: String, octets: Vec<u8>, peers: Peers) -> AttributeCase {
+fn case(words: String, octets: Vec<u8>, peers: Peers) -> AttributeCase {
     let stated = Attributes {
         source_interface: INPUT,
         dest_interface: OUTPUT,
@@ -58,13 +56,12 @@ pub fn case(words: String, octets: Vec<u8>, peers: Peers) -> AttributeCase {
 }
 
 /// Header data of this protocol, and the packet's values stated for them.
-pub fn header_case(words: String, protocol: u32, header: Vec<u8>, peers: Peers) -> AttributeCase {
+fn header_case(words: String, protocol: u32, header: Vec<u8>, peers: Peers) -> AttributeCase {
     case(words, header_sample(protocol, header), peers)
 }
 
-/// What a packet of this form tells where it is all there and its fragment
-/// offset is 0.
-pub fn told(form: Ipv4Form) -> Peers {
+/// What a packet of this form tells where it is whole.
+fn told(form: Ipv4Form) -> Peers {
     if form.version != 4 || form.words < 5 {
         return Peers::default();
     }
@@ -415,13 +412,13 @@ fn ipv6_packet() -> AttributeCase {
     header_case(words, 12, header.concat(), Peers::default())
 }
 
-/// Total lengths and an inner packet do not matter.
+/// Total lengths, fragment offsets and an inner packet do not matter.
 fn fields_passed_over() -> Vec<AttributeCase> {
     let form = Ipv4Form::tcp(4);
-    let with_length = |length: u16| {
+    let with = |words: &str, at: usize, octets: [u8; 2]| {
         let mut header = form.octets();
-        header.splice(2..4, length.to_be_bytes());
-        header_case(format!("total length {length}"), IPV4, header, told(form))
+        header.splice(at..at + 2, octets);
+        header_case(words.into(), IPV4, header, told(form))
     };
     let tunnel = Ipv4Form {
         protocol: 4,
@@ -429,9 +426,12 @@ fn fields_passed_over() -> Vec<AttributeCase> {
     };
     let header = [tunnel.octets(), form.octets()].concat();
     vec![
-        with_length(0),
-        with_length(20),
-        with_length(65_535),
+        with("total length 0", 2, [0, 0]),
+        with("total length 20", 2, [0, 20]),
+        with("total length 65535", 2, [0xff, 0xff]),
+        with("more fragments", 6, [0x20, 0]),
+        with("fragment offset 1", 6, [0, 1]),
+        with("fragment offset 8191", 6, [0x1f, 0xff]),
         header_case("IPv4 in IPv4".into(), IPV4, header, told(tunnel)),
     ]
 }

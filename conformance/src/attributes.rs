@@ -64,9 +64,6 @@ pub const ETHERNET_IPV4: [u8; 2] = [0x08, 0x00];
 
 /// The least octets of an IPv4 header.
 pub const LEAST_IPV4_OCTETS: usize = 20;
-/// The bits of the fragment offset in octets 6 and 7 of an IPv4 header. The
-/// three before them are flags: reserved, don't fragment, more fragments.
-pub const FRAGMENT_OFFSET_BITS: u16 = 0x1fff;
 
 /// The IP protocol TCP, which has ports.
 pub const TCP: u8 = 6;
@@ -192,11 +189,7 @@ fn ipv4_packet(octets: &[u8]) -> Option<Peers> {
         return None;
     }
     let behind = octets.get(header_length..)?;
-    // Only the fragment with offset 0 has the transport header.
-    let (source_port, dest_port) = match fragment_offset(fixed) {
-        0 => ports(fixed[9], behind),
-        _ => (0, 0),
-    };
+    let (source_port, dest_port) = ports(fixed[9], behind);
     Some(Peers {
         peer_type: PEER_IPV4,
         source_address: u32::from_be_bytes([fixed[12], fixed[13], fixed[14], fixed[15]]),
@@ -205,12 +198,6 @@ fn ipv4_packet(octets: &[u8]) -> Option<Peers> {
         source_port,
         dest_port,
     })
-}
-
-/// Where the packet's data lie in the IP datagram that it is a fragment of, in
-/// units of 8 octets (RFC 791); 0 also where the packet is no fragment.
-fn fragment_offset(fixed: &[u8; LEAST_IPV4_OCTETS]) -> u16 {
-    u16::from_be_bytes([fixed[6], fixed[7]]) & FRAGMENT_OFFSET_BITS
 }
 
 /// The ports in the octets behind the IP header; zeros unless all four octets

@@ -56,10 +56,6 @@ pub fn engine_cases() -> Vec<EngineCase> {
         masks(),
         items_across_calls(),
         packet_values(),
-        values_of_later_fragments(),
-        tests_of_fragments(),
-        counted_fragments(),
-        every_attribute_counted(),
         refused_sets(),
         refused_samples(),
     ]
@@ -517,125 +513,6 @@ fn packet_values() -> Vec<EngineCase> {
         }
     }
     cases
-}
-
-/// The case over a fragment of the TCP packet, with these flags and this
-/// fragment offset in octets 6 and 7 of its header.
-fn over_fragment(bits: u16, case: EngineCase) -> EngineCase {
-    let packet = fragment(Ipv4Form::tcp(20).octets(), bits);
-    EngineCase {
-        words: format!("{}, fragment {bits:04x}", case.words),
-        sample: header_sample(IPV4, packet),
-        ..case
-    }
-}
-
-/// Each attribute of a later fragment as tested and as counted: its ports are
-/// 0, whatever lies behind its header.
-fn values_of_later_fragments() -> Vec<EngineCase> {
-    let values = [INPUT, 1, SOURCE, 6, 0, OUTPUT, 1, DEST, 6, 0];
-    let mut cases = Vec::new();
-    for (attribute, value) in VALUED.into_iter().zip(values) {
-        let counted = [Rule::new(COUNT_PKT, 0).with_test(attribute, ALL, value)];
-        let words = format!("attribute {attribute}");
-        let key = [(attribute, ALL, value)];
-        let case = keyed(&words, &counted, COUNTED_PKT, 1, &key);
-        cases.push(over_fragment(185, case));
-    }
-    for (attribute, behind) in [
-        (SOURCE_TRANS_ADDRESS, SOURCE_PORT),
-        (DEST_TRANS_ADDRESS, DEST_PORT),
-    ] {
-        let counted = [Rule::new(COUNT_PKT, 0).with_test(attribute, ALL, behind)];
-        let words = format!("attribute {attribute}, what lies behind");
-        let case = answered(&words, &counted, NOT_MATCHED, 1);
-        cases.push(over_fragment(185, case));
-    }
-    cases
-}
-
-/// A test for the port that the octets behind the header would be, then one of
-/// the protocol: in a first fragment the former succeeds, whatever its flags,
-/// and in a later one only the latter.
-fn tests_of_fragments() -> Vec<EngineCase> {
-    let rules = [
-        Rule::new(IGNORE, 0).with_test(DEST_TRANS_ADDRESS, ALL, DEST_PORT),
-        Rule::new(COUNT_PKT, 0).with_test(DEST_TRANS_TYPE, ALL, 6),
-    ];
-    let of_port = answered("a test of a port", &rules, IGNORED, 1);
-    let key = [(DEST_TRANS_TYPE, ALL, 6)];
-    let of_protocol = keyed("a test of the protocol", &rules, COUNTED_PKT, 2, &key);
-    let first = [0, MORE_FRAGMENTS, DONT_FRAGMENT, RESERVED_FLAG];
-    let later = [1, 256, 8191, MORE_FRAGMENTS | 185, DONT_FRAGMENT | 185];
-    let first = first.map(|bits| over_fragment(bits, of_port.clone()));
-    let later = later.map(|bits| over_fragment(bits, of_protocol.clone()));
-    first.into_iter().chain(later).collect()
-}
-
-/// Ports as counted untested, and as queued: of the packet in a first fragment,
-/// and 0 in a later one.
-fn counted_fragments() -> Vec<EngineCase> {
-    let last = Rule::new(COUNT_PKT, 0).with_test(DEST_TRANS_ADDRESS, 0xff0f, 7);
-    let untested = [Rule::new(GOTO_ACT, 2), last];
-    let counted = |port: u32| {
-        let key = [(DEST_TRANS_ADDRESS, 0xff0f, port)];
-        keyed("CountPkt of a port", &untested, COUNTED_PKT, 2, &key)
-    };
-    let port = |attribute| Rule::new(PUSH_PKT_TO_ACT, 0).with_test(attribute, ALL, 7);
-    let pushes = [SOURCE_TRANS_ADDRESS, DEST_TRANS_ADDRESS].map(port);
-    let both = |source: u32, dest: u32| {
-        let key = [
-            (SOURCE_TRANS_ADDRESS, ALL, source),
-            (DEST_TRANS_ADDRESS, ALL, dest),
-        ];
-        queued("both ports queued", &pushes, &key)
-    };
-    vec![
-        over_fragment(MORE_FRAGMENTS, counted(DEST_PORT & 0xff0f)),
-        over_fragment(MORE_FRAGMENTS | 1, counted(0)),
-        over_fragment(8191, counted(0)),
-        over_fragment(MORE_FRAGMENTS, both(SOURCE_PORT, DEST_PORT)),
-        over_fragment(MORE_FRAGMENTS | 1, both(0, 0)),
-        over_fragment(8191, both(0, 0)),
-    ]
-}
-
-/// The key with every attribute of a packet of this protocol with these ports.
-fn key_of_all(protocol: u32, [from, to]: [u32; 2]) -> Vec<(u8, u32, u32)> {
-    let values = [
-        INPUT, 1, SOURCE, protocol, from, OUTPUT, 1, DEST, protocol, to,
-    ];
-    let entry = |(attribute, value)| (attribute, ALL, value);
-    VALUED.into_iter().zip(values).map(entry).collect()
-}
-
-/// Every attribute in the key: of a packet, a first and a later fragment, and
-/// under both header protocols.
-fn every_attribute_counted() -> Vec<EngineCase> {
-    let case = |words: &str, sample: Vec<u8>, protocol: u32, ports: [u32; 2]| {
-        let key = key_of_all(protocol, ports);
-        let case = keyed(words, &every_attribute(), COUNTED, 12, &key);
-        EngineCase { sample, ..case }
-    };
-    let udp = Ipv4Form {
-        words: 7,
-        protocol: UDP,
-        ..Ipv4Form::tcp(9)
-    };
-    let framed = |bits: u16| {
-        let packet = fragment(udp.octets(), bits);
-        header_sample(ETHERNET, ethernet(ETHERNET_IPV4, &packet))
-    };
-    let bare = |bits: u16| header_sample(IPV4, fragment(Ipv4Form::tcp(4).octets(), bits));
-    let (none, both) = ([0, 0], [SOURCE_PORT, DEST_PORT]);
-    vec![
-        case("all of a packet", tcp_sample(), 6, both),
-        case("all of a first fragment", bare(MORE_FRAGMENTS), 6, both),
-        case("all of a later fragment", bare(256), 6, none),
-        case("all of a framed packet", framed(0), 17, both),
-        case("all of a framed first fragment", framed(0xe000), 17, both),
-        case("all of a framed later fragment", framed(8191), 17, none),
-    ]
 }
 
 /// The check's refusals, with a flow sample and with octets that are none:

@@ -11,7 +11,6 @@ use crate::random_samples::*;
 use crate::rule_damage::{aimed_miss, near_miss, AIMS};
 use crate::rule_generator::{accepted_set, any_plan};
 use crate::rule_layout::Plan;
-use crate::rule_sets::every_attribute;
 use crate::rules::*;
 use crate::small_rule_sets::small_set;
 use crate::value::FlowSample;
@@ -63,9 +62,8 @@ fn pair(set: Vec<u8>, sample: Vec<u8>) -> Pair {
 }
 
 /// A random set with two samples that its tests are made for and one that
-/// they are not, and a small set; now and then the set that shows every
-/// attribute, near misses, sets with several changes, and octets that are no
-/// sample.
+/// they are not, and a small set; now and then near misses, sets with several
+/// changes, and octets that are no sample.
 pub fn pairs_of_one_set(random: &mut Random, turn: usize) -> Vec<Pair> {
     let flows: Vec<FlowSample> = (0..3).map(|_| flow_sample(random)).collect();
     let packets: Vec<Attributes> = flows.iter().take(2).map(attributes).collect();
@@ -79,10 +77,6 @@ pub fn pairs_of_one_set(random: &mut Random, turn: usize) -> Vec<Pair> {
         octets_of_rules(&small_set(random)),
         octets_of_flow(&flows[2]),
     ));
-    if turn.is_multiple_of(2) {
-        let all = octets_of_rules(&every_attribute());
-        pairs.push(pair(all, octets_of_flow(&flows[2])));
-    }
     if turn.is_multiple_of(4) {
         let crowded = crowded_sets(random).into_iter();
         pairs.extend(crowded.map(|set| pair(set, octets_of_flow(&flows[1]))));

@@ -29,7 +29,6 @@ pub mod engine_vectors;
 pub mod field_cases;
 pub mod form_write_cases;
 pub mod form_writer;
-pub mod fragment_cases;
 pub mod framing;
 pub mod generator;
 pub mod given;

@@ -48,8 +48,7 @@ impl Ipv4Form {
     }
 
     /// The octets: the header as long as it says, options being ee, then the
-    /// ports and further octets, as many as are behind it. The flag that it
-    /// must not be cut into fragments is set, and its fragment offset is 0.
+    /// ports and further octets, as many as are behind it.
     pub fn octets(&self) -> Vec<u8> {
         let first = self.version << 4 | self.words;
         let mut header = vec![
@@ -78,23 +77,6 @@ impl Ipv4Form {
         let further = std::iter::repeat(0xdd);
         ports.into_iter().chain(further).take(self.behind)
     }
-}
-
-/// The reserved flag in octets 6 and 7 of an IPv4 header.
-pub const RESERVED_FLAG: u16 = 0x8000;
-/// The flag that the packet must not be cut into fragments.
-pub const DONT_FRAGMENT: u16 = 0x4000;
-/// The flag that fragments follow this one.
-pub const MORE_FRAGMENTS: u16 = 0x2000;
-
-/// The packet with these flags and this fragment offset in octets 6 and 7, as
-/// far as it has them.
-pub fn fragment(mut packet: Vec<u8>, flags_and_offset: u16) -> Vec<u8> {
-    let octets = packet.iter_mut().skip(6);
-    for (octet, own) in octets.zip(flags_and_offset.to_be_bytes()) {
-        *octet = own;
-    }
-    packet
 }
 
 /// An Ethernet frame of this type around the packet.

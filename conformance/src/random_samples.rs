@@ -116,7 +116,7 @@ fn cut(random: &mut Random, header: &mut Vec<u8>, carrier: u32) {
 /// the time in one octet; one of the changes may be a cut.
 fn change_several(random: &mut Random, header: &mut Vec<u8>, carrier: u32) {
     let begin = packet_begin(carrier);
-    let places = [12, 13, begin, begin + 6, begin + 7, begin + 9];
+    let places = [12, 13, begin, begin + 9];
     for turn in random.several(places.len()) {
         if random.below(5) == 0 {
             cut(random, header, carrier);
@@ -126,12 +126,11 @@ fn change_several(random: &mut Random, header: &mut Vec<u8>, carrier: u32) {
     }
 }
 
-/// Changes any octet, one of the two with the Ethernet type, or a first, seventh
-/// or eighth one of the frame or of the packet.
+/// Changes one of the first octets, or of the two with the Ethernet type.
 fn change_one(random: &mut Random, header: &mut [u8]) {
     let at = match random.below(3) {
         0 => random.below(header.len()),
-        _ => [12, 13, 0, 14, 6, 7, 20, 21][random.below(8)],
+        _ => [12, 13, 0, 14][random.below(4)],
     };
     if let Some(octet) = header.get_mut(at) {
         *octet ^= 1 << random.below(8);
@@ -149,29 +148,15 @@ fn ip_protocol(random: &mut Random) -> u8 {
     }
 }
 
-/// The flags and the fragment offset in octets 6 and 7 of a packet: any flags,
-/// and half of the time offset 0, otherwise one bit of it or any.
-fn flags_and_offset(random: &mut Random) -> u16 {
-    let any_flags = (random.below(8) as u16) << 13;
-    let flags = [0, MORE_FRAGMENTS, DONT_FRAGMENT, any_flags][random.below(4)];
-    let offset = match random.below(8) {
-        0..=3 => 0,
-        4 | 5 => 1 << random.below(13),
-        _ => random.below(8192) as u16,
-    };
-    flags | offset
-}
-
-/// An IPv4 packet with random addresses and ports, half of the time a later
-/// fragment.
+/// An IPv4 packet with random addresses and ports.
 fn packet(random: &mut Random) -> Vec<u8> {
     let form = Ipv4Form {
-        version: [4, 4, 4, 4, 4, 4, 4, 4, 4, 4, 4, 4, 4, 4, 6, 5][random.below(16)],
+        version: [4, 4, 4, 4, 4, 4, 4, 4, 4, 4, 6, 5][random.below(12)],
         words: [5, 5, 5, 5, 5, 6, 4, random.below(16) as u8][random.below(8)],
         protocol: ip_protocol(random),
-        behind: [random.below(4), 4, 4, 4, 5, 8, 8, 20][random.below(8)],
+        behind: [0, 1, 2, 3, 4, 4, 4, 5, 8, 20][random.below(10)],
     };
-    let mut octets = fragment(form.octets(), flags_and_offset(random));
+    let mut octets = form.octets();
     let (fixed, behind) = (12..20, form.header_length()..form.header_length() + 4);
     for at in fixed.chain(behind) {
         if let Some(octet) = octets.get_mut(at) {

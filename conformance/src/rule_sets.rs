@@ -58,19 +58,6 @@ fn push_and_next(held: u8) -> [Rule; 2] {
     ]
 }
 
-/// The packet's value of every attribute, untested: each is queued, and Count
-/// puts them all in the key. 12 rules are come to.
-pub fn every_attribute() -> Vec<Rule> {
-    let mut rules = vec![Rule::new(GOTO_ACT, 2)];
-    for (held, attribute) in (0..).zip(VALUED) {
-        let push = Rule::new(PUSH_PKT_TO_ACT, 2 * held + 4);
-        rules.push(push.with_test(attribute, u32::MAX, 0).holding(held));
-        rules.push(Rule::new(NO_MATCH, 0).holding(held));
-    }
-    rules.push(Rule::new(COUNT, 0).holding(VALUED.len() as u8));
-    rules
-}
-
 /// The set with further rules behind it.
 pub fn followed_by(mut rules: Vec<Rule>, further: &[Rule]) -> Vec<Rule> {
     rules.extend_from_slice(further);

@@ -19,8 +19,7 @@ const USAGE: &str = "collector receives sFlow datagrams on 127.0.0.1 and prints 
   collector PORT COUNT
 PORT is the UDP port, 0 to 65535 (0: any free one); COUNT is how many datagrams, 1 to 4294967295.";
 
-/// Counts TCP and UDP packets by protocol and destination port (0 in all but the first fragment of a packet), all other
-/// IP packets together.
+/// Counts TCP and UDP packets by protocol and destination port, all other IP packets together.
 fn rules() -> Vec<u8> {
     let rule = |attribute, opcode, value, parameter| Rule {
         attribute,

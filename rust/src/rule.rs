@@ -23,10 +23,6 @@ macro_rules! numbered {
 
 numbered! {
     /// Attributes of a flow sample, by their numbers in RFC 2722.
-    ///
-    /// IPv4 and IPv6 data give them directly. A sampled header that holds no IPv4 packet leaves all but the interfaces 0.
-    /// One that does has ports where the protocol is TCP or UDP, their four octets were sampled and the packet's fragment
-    /// offset is 0 (only that fragment has the transport header); else both ports are 0, while addresses and protocol stay.
     Attribute {
         Null = 0, "nothing: a test of it always succeeds";
         SourceInterface = 4, "the sample's input";

@@ -148,21 +148,20 @@ fn small_sets_get_every_answer() {
     );
 }
 
-/// How often each IP protocol comes in packets of samples that are looked into,
-/// have fragment offset 0, and have four octets or more behind their header.
+/// How often each IP protocol comes in packets of samples that are looked into
+/// and have four octets or more behind their header.
 fn ip_protocols() -> [usize; 256] {
     let mut counts = [0; 256];
-    let samples = flow_samples(5).take(120_000);
+    let samples = flow_samples(5).take(80_000);
     for flow in samples.filter_map(|octets| exact_flow_sample(&octets)) {
         let PacketData::Header(header) = flow.packet_data else {
             continue;
         };
         let begin = if header.protocol == 1 { 14 } else { 0 };
         let packet = header.header.get(begin..).unwrap_or_default();
-        if let [first @ 0x45..=0x4f, _, _, _, _, _, high, 0, _, protocol, ..] = *packet {
+        if let [first @ 0x45..=0x4f, _, _, _, _, _, _, _, _, protocol, ..] = *packet {
             let end = 4 * usize::from(first & 15);
-            let has_ports = high % 32 == 0 && packet.len() >= end + 4;
-            counts[usize::from(protocol)] += usize::from(has_ports);
+            counts[usize::from(protocol)] += usize::from(packet.len() >= end + 4);
         }
     }
     counts

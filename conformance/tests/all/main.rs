@@ -8,7 +8,6 @@ mod check;
 mod crowded_inputs;
 mod dump_text;
 mod engine;
-mod fragments;
 mod inputs;
 mod ledger;
 mod ledger_vectors;

@@ -1,5 +1,5 @@
 -- What the views of a packet are, by what the tests of its octets answer. Assumes nothing.
-use Prim.Native.Nat.{ℕ, zero, suc, ◌+◌, ◌*◌, ◌-◌, ◌/◌, ◌%◌, ◌^◌, ◌≤◌, ◌<◌}
+use Prim.Native.Nat.{ℕ, zero, suc, ◌+◌, ◌*◌, ◌-◌, ◌/◌, ◌≤◌, ◌<◌}
 use native.Mathlib.Omega.{arith}
 use mathlib.Core.Path.{◌≡◌, refl, sym}
 use mathlib.Core.List.{List, []}
@@ -19,7 +19,7 @@ use Rattle.packet_data.specs.declared.SampledIpv4.{SampledIpv4}
 use Rattle.packet_data.specs.declared.SampledIpv6.{SampledIpv6}
 use Rattle.packet.specs.declared.Ports.{Ports}
 use Rattle.packet.specs.declared.Attributes.{Attributes}
-use Rattle.packet.specs.Attributes.{header_size, is_ipv4, no_ports, ports_of, fragment_offset, fragment_ports, no_view, ipv4_view, holds_ipv4, header_view, packet_view, attribute}
+use Rattle.packet.specs.Attributes.{header_size, is_ipv4, no_ports, ports_of, no_view, ipv4_view, holds_ipv4, header_view, packet_view, attribute}
 
 -- ---- protocols and ports
 
@@ -46,16 +46,6 @@ module _ (x : List ℕ) (protocol size : ℕ) where
   unfolding ports_of
   ports_none h = rw h
 
-  -- the fragment offset, read from octets 6 and 7
-  module _ (offset : ℕ) (e : offset ≡ (get_or x 6 0 * 256 + get_or x 7 0) % 2 ^ 13) where
-    pub offset_0 : offset ≡ 0 → ports_of x protocol size ≡ fragment_ports x protocol size
-    unfolding fragment_ports
-    offset_0 z = rw (pair_number x 6, ← e, eq-eqb offset 0 z)
-
-    pub other_offset : (offset ≡ 0 → ⊥) → no_ports ≡ fragment_ports x protocol size
-    unfolding fragment_ports
-    other_offset n = rw (pair_number x 6, ← e, ne_eqb offset 0 n)
-
 -- ---- what counts as IPv4
 
 module _ (x : List ℕ) where
@@ -77,17 +67,17 @@ module _ (x : List ℕ) where
   pub ipv4_long : is_ipv4 x ≡ true → 20 ≤ length x
   ipv4_long e = leb-true 20 (length x) (and_parts _ _ e).0
 
-  pub ipv4_header : is_ipv4 x ≡ true → (20 ≤ header_size x) × (header_size x ≤ length x)
+  pub ipv4_header : is_ipv4 x ≡ true → header_size x ≤ length x
   ipv4_header e =
       let a = and_parts (leb 20 (length x)) (eqb (get_or x 0 0 / 16) 4 && (leb 20 (header_size x) && leb (header_size x) (length x))) e in
       let b = and_parts (eqb (get_or x 0 0 / 16) 4) (leb 20 (header_size x) && leb (header_size x) (length x)) a.1 in
       let c = and_parts (leb 20 (header_size x)) (leb (header_size x) (length x)) b.1 in
-      (leb-true 20 (header_size x) c.0, leb-true (header_size x) (length x) c.1)
+      leb-true (header_size x) (length x) c.1
 
   pub ipv4_seen : is_ipv4 x ≡ true → (source dest protocol size : ℕ) (ports : Ports)
       → source ≡ get_or x 12 0 * 16777216 + get_or x 13 0 * 65536 + get_or x 14 0 * 256 + get_or x 15 0
       → dest ≡ get_or x 16 0 * 16777216 + get_or x 17 0 * 65536 + get_or x 18 0 * 256 + get_or x 19 0
-      → protocol ≡ get_or x 9 0 → size ≡ header_size x → ports ≡ fragment_ports x protocol size
+      → protocol ≡ get_or x 9 0 → size ≡ header_size x → ports ≡ ports_of x protocol size
       → record { peer_type = 1; source_address = source; dest_address = dest; protocol = protocol; ports = ports } ≡ ipv4_view x
   unfolding ipv4_view
   ipv4_seen e source dest protocol size ports a b c d f = rw (e, word_number x 12, word_number x 16, a, b, f, d, c)

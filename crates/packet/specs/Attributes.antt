@@ -1,5 +1,5 @@
--- The attributes of a flow sample (document 01, "Attributes of a flow sample"; document 02, W-202), by the numbers of RFC 2722, Appendix C.
-use Rattle.std.specs.Prelude.{ℕ, ◌+◌, ◌*◌, ◌/◌, ◌%◌, ◌^◌, List, [], ◌∷◌, Bool, cond, ◌&&◌, ◌||◌, length, drop, leb, eqb}
+-- The attributes of a flow sample (document 01, "Attributes of a flow sample"), by the numbers of RFC 2722, Appendix C.
+use Rattle.std.specs.Prelude.{ℕ, ◌+◌, ◌*◌, ◌/◌, ◌%◌, List, [], ◌∷◌, Bool, cond, ◌&&◌, ◌||◌, length, drop, leb, eqb}
 use Rattle.xdr.specs.Numbers.{number_at}
 use Rattle.sflow.specs.Grammar.{case, chosen}
 use Rattle.fields.specs.Parts.{item}
@@ -17,10 +17,6 @@ use Rattle.packet.specs.declared.Attributes.{Attributes}
 abbrev pub header_size : List ℕ → ℕ
 header_size x = item x 0 % 16 * 4
 
--- the fragment offset: the low 13 bits of octets 6 and 7; the three bits above them are flags (RFC 791, 3.1)
-abbrev pub fragment_offset : List ℕ → ℕ
-fragment_offset x = number_at x 6 2 % 2 ^ 13
-
 -- 20 octets are there, the version is 4, and the header length is at least 20 and present
 abbrev pub is_ipv4 : List ℕ → Bool
 is_ipv4 x = leb 20 (length x) && (eqb (item x 0 / 16) 4 && (leb 20 (header_size x) && leb (header_size x) (length x)))
@@ -35,10 +31,6 @@ ports_of x protocol size =
     (record { source = number_at x size 2; dest = number_at x (size + 2) 2 })
     no_ports
 
--- the same in the fragment with offset 0, which alone has the transport header; in any other both are 0 (document 02, W-202)
-unfoldable pub fragment_ports : List ℕ → ℕ → ℕ → Ports
-fragment_ports x protocol size = cond (eqb (fragment_offset x) 0) (ports_of x protocol size) no_ports
-
 -- what is neither IPv4 nor IPv6
 abbrev pub no_view : PacketView
 no_view = record { peer_type = 0; source_address = 0; dest_address = 0; protocol = 0; ports = no_ports }
@@ -51,7 +43,7 @@ ipv4_view x =
       source_address = number_at x 12 4;
       dest_address = number_at x 16 4;
       protocol = item x 9;
-      ports = fragment_ports x (item x 9) (header_size x);
+      ports = ports_of x (item x 9) (header_size x);
     })
     no_view
 

@@ -1,2 +1,1 @@
 pub mod Attributes
-pub mod Fragments

@@ -1,7 +1,7 @@
-// The attributes of a flow sample that rules test (document 01, "Attributes of a flow sample"; document 02, W-202; RFC 2722, Appendix C).
-ghost use Rattle.std.specs.Prelude.{◌≡◌, ◌*◌, ◌+◌, ◌%◌, ◌^◌, ◌≤◌, true, ◌||◌, length, eqb};
+// The attributes of a flow sample that rules test (document 01, "Attributes of a flow sample"; RFC 2722, Appendix C).
+ghost use Rattle.std.specs.Prelude.{◌≡◌, ◌*◌, ◌+◌, ◌%◌, ◌≤◌, true, ◌||◌, length, eqb};
 ghost use Rattle.fields.specs.Strings.{text_in};
-ghost use Rattle.packet.specs.Attributes.{header_size, is_ipv4, ports_of, fragment_ports, no_view, ipv4_view, holds_ipv4, header_view, packet_view, attributes_of, attribute};
+ghost use Rattle.packet.specs.Attributes.{header_size, is_ipv4, ports_of, no_view, ipv4_view, holds_ipv4, header_view, packet_view, attributes_of, attribute};
 
 use fields::strings::Text;
 use packet_data::{PacketData, SampledHeader, SampledIpv4, SampledIpv6};
@@ -81,24 +81,6 @@ fn ports_behind(x: &[u8], protocol: u32, size: usize) -> Ports
     Ports { source: 0, dest: 0 }
 }
 
-// The fragment offset in octets 6 and 7 of an IPv4 header: their low 13 bits, behind three flags.
-fn fragment_offset(high: u8, low: u8) -> u32
-    ensures { result ≡ (high * 256 + low) % 2 ^ 13 }
-{
-    xdr::pair_of(high, low) % 8192
-}
-
-// The ports behind an IPv4 header of a size: only the fragment with offset 0 has the transport header.
-fn fragment_ports(x: &[u8], protocol: u32, size: usize) -> Ports
-    requires { (20 ≤ length x.now) × (size ≤ length x.now) }
-    ensures { result ≡ fragment_ports x.now protocol size }
-{
-    if fragment_offset(x[6], x[7]) == 0 {
-        return ports_behind(x, protocol, size);
-    }
-    Ports { source: 0, dest: 0 }
-}
-
 // Whether octets that begin with an IP header count as IPv4.
 fn is_ipv4(x: &[u8]) -> bool
     ensures { result ≡ is_ipv4 x.now }
@@ -124,7 +106,7 @@ fn ipv4_fields(x: &[u8]) -> PacketView
 {
     let protocol = wide(x[9]);
     let size = size_of(x[0]);
-    let ports = fragment_ports(x, protocol, size);
+    let ports = ports_behind(x, protocol, size);
     PacketView {
         peer_type: 1,
         source_address: xdr::word_of(x[12], x[13], x[14], x[15]),

@@ -15,8 +15,8 @@ shared-slice-read-size-of c = search rules
 size-of-requires : tie.Need-size-of-requires
 size-of-requires c κs = search rules
 
-fragment-ports-requires : tie.Need-fragment-ports-requires
-fragment-ports-requires c κs = search rules
+ports-behind-requires : tie.Need-ports-behind-requires
+ports-behind-requires c κs = search rules
 
 shared-slice-read-word-of : tie.Need-shared-slice-read-word-of
 shared-slice-read-word-of c = search rules
@@ -51,12 +51,12 @@ word-of-requires-2 c κs = search rules
 returns : tie.Need-returns
 returns c =
     let at-word-of = c.before.before.before.before.before in
-    let at-fragment-ports = at-word-of.before.before.before.before.before in
-    let at-size-of = at-fragment-ports.before in
+    let at-ports-behind = at-word-of.before.before.before.before.before in
+    let at-size-of = at-ports-behind.before in
     let at_wide = at-size-of.before.before in
     let entry = at_wide.before.before.before in
     ipv4_seen entry.args.x.now entry.requires.2 _ _ _ _ _ at-word-of.word_of.ensures c.word-of2.ensures at_wide.wide.ensures
-    at-size-of.size_of.ensures at-fragment-ports.fragment-ports.ensures
+    at-size-of.size_of.ensures at-ports-behind.ports-behind.ensures
 
 pub ipv4_fields_spec : {M : Type 1} → statement M
 ipv4_fields_spec =
@@ -66,7 +66,7 @@ ipv4_fields_spec =
     wide-requires
     shared-slice-read-size-of
     size-of-requires
-    fragment-ports-requires
+    ports-behind-requires
     shared-slice-read-word-of
     shared-slice-read-word-of-2
     shared-slice-read-word-of-3

@@ -11,7 +11,7 @@ ipv4-fields-requires : tie.Need-ipv4-fields-requires
 ipv4-fields-requires c κs =
     let entry = c.before.before.before in (
       ipv4_long entry.args.x.now (sym c.before.is-ipv4.ensures ∙ c.if1.true),
-      (ipv4_header entry.args.x.now (sym c.before.is-ipv4.ensures ∙ c.if1.true)).1,
+      ipv4_header entry.args.x.now (sym c.before.is-ipv4.ensures ∙ c.if1.true),
       sym c.before.is-ipv4.ensures ∙ c.if1.true,
     )
 
