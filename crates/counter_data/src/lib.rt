@@ -1,3 +1,4 @@
+#![tactic(auto)]
 // Counters of a counter sample.
 ghost use Rattle.std.specs.Prelude.{◌≡◌, []};
 ghost use Rattle.xdr.specs.Items.{total_width};

@@ -1,3 +1,4 @@
+#![tactic(auto)]
 // Extended data of a flow sample.
 ghost use Rattle.std.specs.Prelude.{◌≡◌, ◌+◌};
 ghost use Rattle.sflow.specs.Grammar.{list, ◌then◌};

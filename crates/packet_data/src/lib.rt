@@ -1,3 +1,4 @@
+#![tactic(auto)]
 // Packet data of a flow sample.
 ghost use Rattle.std.specs.Prelude.{◌≡◌};
 ghost use Rattle.sflow.specs.Decode.{decode, mapped};
