@@ -1,3 +1,4 @@
+#![tactic(auto)]
 // The check of a rule set (document 01, "Rule sets"): its length, then rules in number order, each from refusal 31 up; the first rule that breaks one is
 // named.
 ghost use Rattle.std.specs.Prelude.{◌≡◌, false, ◌&&◌, ◌||◌, ◌≤◌, eqb, ltb};

@@ -13,13 +13,13 @@ use sflow::Refusal;
 use xdr::WordRead;
 
 // A counters version, 1 to 7, and the offset of the first counter.
-#[derive(Drop)]
+#[derive(Clone, Copy)]
 pub struct CounterBody {
     pub version: u32,
     pub at: usize,
 }
 
-#[derive(Drop)]
+#[derive(Clone, Copy)]
 pub enum CounterBodyRead {
     Found(CounterBody, usize),
     Refused(Refusal, usize),

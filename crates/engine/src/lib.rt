@@ -18,7 +18,7 @@ use rules::{Action, CheckAnswer, CheckRefusal, Item, MachineAnswer, Rule};
 
 // The machine's state: the return stack and the pattern queue hold rule numbers, the newest last. The answer is 0 while it runs, then the
 // number of the machine's.
-#[derive(Drop)]
+#[derive(Clone, Copy)]
 struct EngineState {
     number: usize,
     testing: bool,
@@ -31,13 +31,13 @@ struct EngineState {
 }
 
 // A mask and a value at each attribute's number.
-#[derive(Drop)]
+#[derive(Clone, Copy)]
 pub struct FlowKey {
     pub masks: [u32; 23],
     pub values: [u32; 23],
 }
 
-#[derive(Drop)]
+#[derive(Clone, Copy)]
 pub enum EngineAnswer {
     // the machine's answer
     Ended(MachineAnswer),
@@ -48,7 +48,7 @@ pub enum EngineAnswer {
 }
 
 // The key is zero unless the answer is Count or CountPkt; the number of rules come to is 0 in a refusal.
-#[derive(Drop)]
+#[derive(Clone, Copy)]
 pub struct EngineResult {
     pub answer: EngineAnswer,
     pub key: FlowKey,

@@ -23,7 +23,7 @@ use fields::words::{Entries, FourRead};
 use sflow::Refusal;
 use xdr::WordRead;
 
-#[derive(Drop)]
+#[derive(Clone, Copy)]
 pub struct Switch {
     pub src_vlan: u32,
     pub src_priority: u32,
@@ -31,7 +31,7 @@ pub struct Switch {
     pub dst_priority: u32,
 }
 
-#[derive(Drop)]
+#[derive(Clone, Copy)]
 pub struct Router {
     pub nexthop: Address,
     pub src_mask: u32,
@@ -39,14 +39,14 @@ pub struct Router {
 }
 
 // A path segment: 1 for a set or 2 for a sequence, and its words, the numbers of autonomous systems.
-#[derive(Drop)]
+#[derive(Clone, Copy)]
 pub struct Segment {
     pub kind: u32,
     pub numbers: Entries,
 }
 
 // dst_as_path is a list of segments, communities one of words.
-#[derive(Drop)]
+#[derive(Clone, Copy)]
 pub struct Gateway {
     pub router_as: u32,
     pub src_as: u32,
@@ -56,19 +56,19 @@ pub struct Gateway {
     pub localpref: u32,
 }
 
-#[derive(Drop)]
+#[derive(Clone, Copy)]
 pub struct User {
     pub src_user: Text,
     pub dst_user: Text,
 }
 
-#[derive(Drop)]
+#[derive(Clone, Copy)]
 pub struct Url {
     pub direction: u32,
     pub url: Text,
 }
 
-#[derive(Drop)]
+#[derive(Clone, Copy)]
 pub enum Extended {
     IsSwitch(Switch),
     IsRouter(Router),
@@ -77,13 +77,13 @@ pub enum Extended {
     IsUrl(Url),
 }
 
-#[derive(Drop)]
+#[derive(Clone, Copy)]
 pub enum ExtendedRead {
     Found(Extended, usize),
     Refused(Refusal, usize),
 }
 
-#[derive(Drop)]
+#[derive(Clone, Copy)]
 pub enum SegmentRead {
     Found(Segment, usize),
     Refused(Refusal, usize),

@@ -10,7 +10,7 @@ use sflow::Refusal;
 use xdr::{QuadRead, WordRead};
 
 // Sixteen octets as four words.
-#[derive(Drop)]
+#[derive(Clone, Copy)]
 pub struct Quad {
     pub a: u32,
     pub b: u32,
@@ -19,13 +19,13 @@ pub struct Quad {
 }
 
 // A type, 1 for IPv4 or 2 for IPv6, and the octets; those of an IPv4 address are the first word, and the others are 0.
-#[derive(Drop)]
+#[derive(Clone, Copy)]
 pub struct Address {
     pub kind: u32,
     pub octets: Quad,
 }
 
-#[derive(Drop)]
+#[derive(Clone, Copy)]
 pub enum AddressRead {
     Found(Address, usize),
     Refused(Refusal, usize),

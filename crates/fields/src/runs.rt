@@ -8,7 +8,7 @@ use sflow::Refusal;
 use xdr::RunRead;
 
 // The offset behind what was passed over.
-#[derive(Drop)]
+#[derive(Clone, Copy)]
 pub enum Passed {
     Next(usize),
     Refused(Refusal, usize),

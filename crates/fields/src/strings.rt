@@ -11,13 +11,13 @@ use sflow::Refusal;
 use xdr::{PaddedRead, WordRead};
 
 // The offset of a string's octets, and how many they are without their padding.
-#[derive(Drop)]
+#[derive(Clone, Copy)]
 pub struct Text {
     pub at: usize,
     pub length: u32,
 }
 
-#[derive(Drop)]
+#[derive(Clone, Copy)]
 pub enum StringRead {
     Found(Text, usize),
     Refused(Refusal, usize),

@@ -10,7 +10,7 @@ use sflow::Refusal;
 use xdr::WordRead;
 
 // Four words, each an item of its own: their values and the offset behind them, or the offset of the first that is cut short.
-#[derive(Drop)]
+#[derive(Clone, Copy)]
 pub enum FourRead {
     Four(u32, u32, u32, u32, usize),
     CutFour(usize),
@@ -36,7 +36,7 @@ pub fn read_four(s: &[u8], at: usize) -> FourRead
 
 // The offset of a list's first entry, and how many entries there are. Each entry says where the next one begins; words lie 4 octets
 // apart and are read by `xdr::read_word`.
-#[derive(Drop)]
+#[derive(Clone, Copy)]
 pub struct Entries {
     pub at: usize,
     pub count: u32,

@@ -5,7 +5,7 @@ ghost use Rattle.xdr.specs.Writes.{stored, padded_octets, afterwards};
 ghost use Rattle.form_writer.specs.Parts.{write_number, write_alone, words_octets, parts_octets, joined_octets};
 
 // What a writer answers: the number of octets written, or why it wrote none.
-#[derive(Drop)]
+#[derive(Clone, Copy)]
 pub enum WriteAnswer {
     Done(usize),
     // the limit is not one that a datagram can have, or the buffer is shorter

@@ -7,14 +7,14 @@ use fields::address::{Address, Quad};
 use reader::sample::FlowWords;
 
 // What the ledger takes of a flow sample: the agent's address, from the datagram's head, and the words that the sample begins with.
-#[derive(Drop)]
+#[derive(Clone, Copy)]
 pub struct FlowEntry {
     pub agent: Address,
     pub words: FlowWords,
 }
 
 // A row: whether it is in use, its source, the numbers that the source's last sample had, and the totals.
-#[derive(Drop)]
+#[derive(Clone, Copy)]
 pub struct Row {
     pub used: bool,
     pub agent: Address,
@@ -25,7 +25,7 @@ pub struct Row {
     pub pool_total: u64,
 }
 
-#[derive(Drop)]
+#[derive(Clone, Copy)]
 pub enum EntryAnswer {
     Entered,
     // every row belongs to another source
@@ -113,7 +113,7 @@ fn same_source(row: Row, x: FlowEntry) -> bool
 }
 
 // An answer, with the row afterwards.
-#[derive(Drop)]
+#[derive(Clone, Copy)]
 pub struct RowEntered {
     pub answer: EntryAnswer,
     pub row: Row,
@@ -262,7 +262,7 @@ fn row_for(rows: [Row; 64], x: FlowEntry) -> usize
 }
 
 // An answer, with the table afterwards.
-#[derive(Drop)]
+#[derive(Clone, Copy)]
 pub struct TableEntered {
     pub answer: EntryAnswer,
     pub rows: [Row; 64],

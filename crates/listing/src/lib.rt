@@ -11,7 +11,7 @@ use record_lines::Listed;
 use xdr::Written;
 
 // What a part of a capture begins with.
-#[derive(Drop)]
+#[derive(Clone, Copy)]
 pub enum Frame {
     // a whole record: the length of its datagram
     Whole(usize),
@@ -54,7 +54,7 @@ pub fn frame_at(s: &[u8], at: usize) -> Frame
 }
 
 // What was listed so far: the octets of its records, how many records, refused ones and samples. All are modulo 2^64.
-#[derive(Drop)]
+#[derive(Clone, Copy)]
 pub struct State {
     pub offset: u64,
     pub records: u64,
@@ -63,7 +63,7 @@ pub struct State {
 }
 
 // Why listing stopped, or that it goes on.
-#[derive(Drop)]
+#[derive(Clone, Copy)]
 pub enum Stop {
     // between two records: no answer of list_records
     GoesOn,
@@ -76,7 +76,7 @@ pub enum Stop {
 }
 
 // Where listing stands: in the buffer, in the output, and the state.
-#[derive(Drop)]
+#[derive(Clone, Copy)]
 pub struct Place {
     pub at: usize,
     pub out: usize,

@@ -1,3 +1,4 @@
+#![tactic(auto)]
 // Numbers into a lent array: what a function for C and Rust answers beyond one number.
 ghost use Rattle.std.specs.Prelude.{◌≤◌, ◌≡◌, ◌++◌, length, take, drop};
 ghost use Rattle.xdr.specs.Writes.{afterwards};

@@ -7,14 +7,14 @@ use fields::strings::Text;
 use packet_data::{PacketData, SampledHeader, SampledIpv4, SampledIpv6};
 use reader::sample::FlowSample;
 
-#[derive(Drop)]
+#[derive(Clone, Copy)]
 pub struct Ports {
     pub source: u32,
     pub dest: u32,
 }
 
 // A packet's peers and transport: the peers' type is 1 for IPv4, 2 for IPv6, else 0; the protocol is the IP protocol.
-#[derive(Drop)]
+#[derive(Clone, Copy)]
 pub struct PacketView {
     pub peer_type: u32,
     pub source_address: u32,
@@ -23,7 +23,7 @@ pub struct PacketView {
     pub ports: Ports,
 }
 
-#[derive(Drop)]
+#[derive(Clone, Copy)]
 pub struct Attributes {
     pub input: u32,
     pub output: u32,

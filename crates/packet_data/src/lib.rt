@@ -13,14 +13,14 @@ use fields::words::FourRead;
 use sflow::Refusal;
 use xdr::{QuadRead, WordRead};
 
-#[derive(Drop)]
+#[derive(Clone, Copy)]
 pub struct SampledHeader {
     pub protocol: u32,
     pub frame_length: u32,
     pub header: Text,
 }
 
-#[derive(Drop)]
+#[derive(Clone, Copy)]
 pub struct SampledIpv4 {
     pub length: u32,
     pub protocol: u32,
@@ -32,7 +32,7 @@ pub struct SampledIpv4 {
     pub tos: u32,
 }
 
-#[derive(Drop)]
+#[derive(Clone, Copy)]
 pub struct SampledIpv6 {
     pub length: u32,
     pub protocol: u32,
@@ -44,14 +44,14 @@ pub struct SampledIpv6 {
     pub priority: u32,
 }
 
-#[derive(Drop)]
+#[derive(Clone, Copy)]
 pub enum PacketData {
     Header(SampledHeader),
     Ipv4(SampledIpv4),
     Ipv6(SampledIpv6),
 }
 
-#[derive(Drop)]
+#[derive(Clone, Copy)]
 pub enum PacketRead {
     Found(PacketData, usize),
     Refused(Refusal, usize),

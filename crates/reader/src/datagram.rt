@@ -14,7 +14,7 @@ use sflow::Refusal;
 use xdr::WordRead;
 
 // What stands before the samples; samples are the offset of the first one and their number.
-#[derive(Drop)]
+#[derive(Clone, Copy)]
 pub struct Head {
     pub agent: Address,
     pub sequence_number: u32,
@@ -22,7 +22,7 @@ pub struct Head {
     pub samples: Entries,
 }
 
-#[derive(Drop)]
+#[derive(Clone, Copy)]
 pub enum HeadRead {
     Found(Head),
     Refused(Refusal, usize),
@@ -106,14 +106,14 @@ pub fn read(s: &[u8]) -> HeadRead
 }
 
 // A place in a datagram: the offset of the next sample, and how many are left.
-#[derive(Drop)]
+#[derive(Clone, Copy)]
 pub struct Cursor {
     pub at: usize,
     pub left: u32,
 }
 
 // A sample with the cursor behind it; or the datagram's end; or a refusal.
-#[derive(Drop)]
+#[derive(Clone, Copy)]
 pub enum Step {
     Found(Sample, Cursor),
     End,

@@ -14,7 +14,7 @@ use sflow::Refusal;
 use xdr::WordRead;
 
 // The words that a flow sample begins with.
-#[derive(Drop)]
+#[derive(Clone, Copy)]
 pub struct FlowWords {
     pub sequence_number: u32,
     pub source_id: u32,
@@ -25,26 +25,26 @@ pub struct FlowWords {
     pub output: u32,
 }
 
-#[derive(Drop)]
+#[derive(Clone, Copy)]
 pub enum FlowWordsRead {
     Found(FlowWords, usize),
     Refused(Refusal, usize),
 }
 
-#[derive(Drop)]
+#[derive(Clone, Copy)]
 pub struct FlowSample {
     pub words: FlowWords,
     pub packet_data: PacketData,
     pub extended_data: Entries,
 }
 
-#[derive(Drop)]
+#[derive(Clone, Copy)]
 pub enum FlowRead {
     Found(FlowSample, usize),
     Refused(Refusal, usize),
 }
 
-#[derive(Drop)]
+#[derive(Clone, Copy)]
 pub struct CountersSample {
     pub sequence_number: u32,
     pub source_id: u32,
@@ -52,27 +52,27 @@ pub struct CountersSample {
     pub counters: CounterBody,
 }
 
-#[derive(Drop)]
+#[derive(Clone, Copy)]
 pub enum CountersRead {
     Found(CountersSample, usize),
     Refused(Refusal, usize),
 }
 
-#[derive(Drop)]
+#[derive(Clone, Copy)]
 pub enum SampleValues {
     Flow(FlowSample),
     Counters(CountersSample),
 }
 
 // A sample's offset and length are both from its type word.
-#[derive(Drop)]
+#[derive(Clone, Copy)]
 pub struct Sample {
     pub offset: usize,
     pub length: usize,
     pub values: SampleValues,
 }
 
-#[derive(Drop)]
+#[derive(Clone, Copy)]
 pub enum SampleRead {
     Found(Sample, usize),
     Refused(Refusal, usize),

@@ -360,7 +360,7 @@ fn sample_lines(d: &mut [u8], at: usize, s: &[u8], first: usize, count: u32) -> 
 }
 
 // How a record was listed.
-#[derive(Drop)]
+#[derive(Clone, Copy)]
 pub enum Listed {
     // an accepted record: the offset behind its lines, and how many samples it has
     Accepted(usize, u32),

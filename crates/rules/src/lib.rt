@@ -8,7 +8,7 @@ ghost use Rattle.rules.specs.Records.{record_widths, rule_in, declared_in, no_re
 ghost use Rattle.rules.specs.Checks.{check_number};
 
 // A rule as the machine is fed it.
-#[derive(Drop)]
+#[derive(Clone, Copy)]
 pub struct Rule {
     pub attribute: u8,
     pub opcode: u8,
@@ -19,14 +19,14 @@ pub struct Rule {
 
 // What a rule declares of its arrival, in document 01's terms: home is 0 for the main part, else the number of its subroutine's first rule; depth
 // counts the open calls, held the queued items.
-#[derive(Drop)]
+#[derive(Clone, Copy)]
 pub struct Declared {
     pub home: usize,
     pub depth: u8,
     pub held: u8,
 }
 
-#[derive(Drop)]
+#[derive(Clone, Copy)]
 pub struct RuleRecord {
     pub mark: u32,
     pub rule: Rule,
@@ -34,7 +34,7 @@ pub struct RuleRecord {
 }
 
 // An item of the pattern queue.
-#[derive(Drop)]
+#[derive(Clone, Copy)]
 pub struct Item {
     pub attribute: u8,
     pub mask: u32,
@@ -42,7 +42,7 @@ pub struct Item {
 }
 
 // What an opcode does; the bool of those that go to their parameter is the test flag.
-#[derive(Drop)]
+#[derive(Clone, Copy)]
 pub enum Action {
     Unknown,
     Ignore,
@@ -58,7 +58,7 @@ pub enum Action {
 }
 
 // What the machine ends in: the name of an opcode from 1 to 4.
-#[derive(Drop)]
+#[derive(Clone, Copy)]
 pub enum MachineAnswer {
     Ignore,
     NoMatch,
@@ -67,7 +67,7 @@ pub enum MachineAnswer {
 }
 
 // Why a rule set is refused.
-#[derive(Drop)]
+#[derive(Clone, Copy)]
 pub enum CheckRefusal {
     // no rule, a part of a record, or over 255 rules
     Length,
@@ -89,14 +89,14 @@ pub enum CheckRefusal {
 }
 
 // What one rule was found to be.
-#[derive(Drop)]
+#[derive(Clone, Copy)]
 pub enum RuleCheck {
     Fine,
     Breaks(CheckRefusal),
 }
 
 // A refusal names the rule; 0 with a wrong length.
-#[derive(Drop)]
+#[derive(Clone, Copy)]
 pub enum CheckAnswer {
     Accepted,
     Refused(CheckRefusal, usize),

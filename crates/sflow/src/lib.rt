@@ -5,7 +5,7 @@ ghost use Rattle.std.specs.Prelude.{◌≡◌};
 ghost use Rattle.sflow.specs.Refusals.{refusal_number};
 
 // Why octets are refused.
-#[derive(Drop)]
+#[derive(Clone, Copy)]
 pub enum Refusal {
     // a word, a hyper or an address's octets are cut short
     CutItem,

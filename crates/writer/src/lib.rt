@@ -56,7 +56,7 @@ pub fn start(
 }
 
 // The offset of the count word and the count with one sample more; or why nothing can be appended.
-#[derive(Drop)]
+#[derive(Clone, Copy)]
 pub enum Checked {
     Ready(usize, u32),
     NotReady(WriteAnswer),

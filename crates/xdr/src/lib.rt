@@ -5,7 +5,7 @@ ghost use Rattle.std.specs.Prelude.{◌≡◌, ◌+◌, ◌*◌, ◌≤◌, leng
 ghost use Rattle.xdr.specs.Items.{word_at, hyper_at, quad_at, items_at, zeros_at, padded_at};
 
 // A word, 4 octets: its value and the offset behind it, or the offset of a word that is cut short.
-#[derive(Drop)]
+#[derive(Clone, Copy)]
 pub enum WordRead {
     Word(u32, usize),
     CutWord(usize),
@@ -38,7 +38,7 @@ pub fn word_of(a: u8, b: u8, c: u8, d: u8) -> u32
 }
 
 // A hyper, 8 octets.
-#[derive(Drop)]
+#[derive(Clone, Copy)]
 pub enum HyperRead {
     Hyper(u64, usize),
     CutHyper(usize),
@@ -57,7 +57,7 @@ pub fn read_hyper(s: &[u8], at: usize) -> HyperRead
 }
 
 // The 16 octets of an IPv6 address, one item, as four words. (The 4 octets of an IPv4 address are read as a word.)
-#[derive(Drop)]
+#[derive(Clone, Copy)]
 pub enum QuadRead {
     Quad(u32, u32, u32, u32, usize),
     CutQuad(usize),
@@ -82,7 +82,7 @@ pub fn read_quad(s: &[u8], at: usize) -> QuadRead
 }
 
 // A run of items of fixed widths: the offset behind the last one, or the offset of the first that is cut short.
-#[derive(Drop)]
+#[derive(Clone, Copy)]
 pub enum RunRead {
     Run(usize),
     CutRun(usize),
@@ -110,7 +110,7 @@ pub fn read_run(s: &[u8], first: usize, widths: &[u8]) -> RunRead
 
 // A string's octets with their padding, one item: the offset behind it; or the offset of the octets where some of them or of the
 // padding are missing; or the offset of the first padding octet that is not zero.
-#[derive(Drop)]
+#[derive(Clone, Copy)]
 pub enum PaddedRead {
     Padded(usize),
     CutPadded(usize),
@@ -135,7 +135,7 @@ pub fn read_padded(s: &[u8], at: usize, len: u32) -> PaddedRead
 }
 
 // Whether octets are all zero, or the offset of the first that is not.
-#[derive(Drop)]
+#[derive(Clone, Copy)]
 pub enum Zeros {
     AllZero,
     NotZero(usize),
@@ -158,7 +158,7 @@ fn all_zero(s: &[u8], first: usize, count: usize) -> Zeros
 }
 
 // The offset behind what was written; or it does not fit there, and every octet is as it was.
-#[derive(Drop)]
+#[derive(Clone, Copy)]
 pub enum Written {
     WrittenTo(usize),
     Full,
