@@ -1,3 +1,4 @@
+#![tactic(auto)]
 // The ledger of lost flow samples (document 01, "Ledger"): what sequence numbers and sample pools say of each source, in a table of 64 rows.
 ghost use Rattle.std.specs.Prelude.{◌≡◌};
 ghost use Rattle.ledger.specs.Ledger.{entry_number, free_row, same_address, source_of, same_source, answered, opened, later, updated, first_row, is_of, is_free, row_for, entered};

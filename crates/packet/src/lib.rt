@@ -1,3 +1,4 @@
+#![tactic(auto)]
 // The attributes of a flow sample that rules test (document 01, "Attributes of a flow sample"; RFC 2722, Appendix C).
 ghost use Rattle.std.specs.Prelude.{◌≡◌, ◌*◌, ◌+◌, ◌%◌, ◌≤◌, true, ◌||◌, length, eqb};
 ghost use Rattle.fields.specs.Strings.{text_in};

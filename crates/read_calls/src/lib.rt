@@ -1,3 +1,4 @@
+#![tactic(auto)]
 // Reading as functions on numbers and slices: a datagram, an extended entry, a path segment. One number is answered, further numbers go into a lent array, as
 // many as it has room for. Crate export gives them to C and Rust.
 ghost use Rattle.std.specs.Prelude.{◌≡◌, ◌∷◌};

@@ -1,3 +1,4 @@
+#![tactic(auto)]
 // A record's lines and the last lines of a capture's listing, as text (ASCII) in a lent output.
 ghost use Rattle.std.specs.Prelude.{◌≡◌, ◌++◌, ℕ, ◌+◌, ◌*◌, ◌≤◌, ◌<◌, length};
 ghost use Rattle.xdr.specs.Writes.{stored, afterwards};
