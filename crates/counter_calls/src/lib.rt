@@ -1,3 +1,4 @@
+#![tactic(auto)]
 // Every counter of a body read straight into a lent array: how many they are, then the counters, then zeros up to 38 numbers. The counters of a version
 // lie at fixed offsets: each function reads them in the part of the octets that they take.
 ghost use Rattle.std.specs.Prelude.{◌+◌, ◌-◌, ◌*◌, ◌≤◌, ◌≡◌, [], ◌∷◌, length, replicate};
