@@ -1,3 +1,4 @@
+#![tactic(auto)]
 // Lists a capture's records as lines of text (ASCII) in a lent output.
 ghost use Rattle.std.specs.Prelude.{◌≡◌, ◌+◌, ◌≤◌, length, take, drop};
 ghost use Rattle.xdr.specs.Writes.{afterwards};

@@ -1,3 +1,4 @@
+#![tactic(auto)]
 // Reading a sample as a function on numbers and slices. Crate export gives it to C and Rust.
 ghost use Rattle.std.specs.Prelude.{◌≤◌, ◌≡◌, ◌∷◌};
 ghost use Rattle.xdr.specs.Writes.{afterwards};

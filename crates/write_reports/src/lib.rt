@@ -1,3 +1,4 @@
+#![tactic(auto)]
 // A writer's answer as numbers, for the functions that write: 0 and the length written into a lent array, or the refusal's number, which leaves the array as
 // it was.
 ghost use Rattle.std.specs.Prelude.{◌≡◌};

@@ -8,17 +8,17 @@ loop-i-init c = (search rules, omega arith)
 
 pub loop-i-preserved : goal.loop-i-preserved
 loop-i-preserved c =
-    let rows = c.args.t1 in
+    let rows = c.args.rows in
     let long : length rows ≡ 64 = search rules in
     (search rules, sym (first_step is_free rows c.loop-i.i (omega arith) (not_free (get_or rows c.loop-i.i free_row) c.if-row.true)) ∙ c.loop-i.invariant.1)
 
 pub returns-else-row : goal.returns-else-row
 returns-else-row c =
-    let rows = c.args.t1 in
+    let rows = c.args.rows in
     let long : length rows ≡ 64 = search rules in
     sym (first_here is_free rows c.loop-i.i (omega arith) (free (get_or rows c.loop-i.i free_row) c.if-row.false)) ∙ c.loop-i.invariant.1
 
 pub returns : goal.returns
 returns c =
-    let rows = c.args.t1 in
+    let rows = c.args.rows in
     let long : length rows ≡ 64 = search rules in sym (first_end is_free rows c.loop-i.i (omega arith)) ∙ c.loop-i.invariant.1

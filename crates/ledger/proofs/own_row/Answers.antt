@@ -8,14 +8,14 @@ loop-i-init c = (search rules, omega arith)
 
 pub returns-then-is_of : goal.returns-then-is_of
 returns-then-is_of c =
-    let rows = c.args.t1 in
+    let rows = c.args.rows in
     let long : length rows ≡ 64 = search rules in
     sym (first_here (is_of (source_of c.args.x)) rows c.loop-i.i (omega arith) (sym c.is_of.ensures ∙ c.if-is_of.true))
     ∙ c.loop-i.invariant.1
 
 pub loop-i-preserved : goal.loop-i-preserved
 loop-i-preserved c =
-    let rows = c.args.t1 in
+    let rows = c.args.rows in
     let long : length rows ≡ 64 = search rules in (
       search rules,
       sym (first_step (is_of (source_of c.args.x)) rows c.loop-i.i (omega arith) (sym c.is_of.ensures ∙ c.if-is_of.false))
@@ -24,6 +24,6 @@ loop-i-preserved c =
 
 pub returns : goal.returns
 returns c =
-    let rows = c.args.t1 in
+    let rows = c.args.rows in
     let long : length rows ≡ 64 = search rules in
     sym (first_end (is_of (source_of c.args.x)) rows c.loop-i.i (omega arith)) ∙ c.loop-i.invariant.1

@@ -1,7 +1,5 @@
 use Rattle.ledger.proofs.Updates.{opens, of_another, of_source}
 use Rattle.std.proofs.Common.{sym, ◌∙◌}
-open-requires : tie.Need-open-requires
-open-requires c κs = search rules
 use Rattle.ledger.proofs.update.Goals as goal
 
 pub returns-then-same_source : goal.returns-then-same_source
@@ -12,8 +10,5 @@ pub returns-then-row : goal.returns-then-row
 returns-then-row c =
     of_another c.args.row c.args.x c.if-row.true (sym c.same_source.ensures ∙ c.if-same_source.false)
 
--- TODO no step «open» at After-open (there: open) nor beside it
--- was: returns-3 : tie.Need-returns-3
--- was: returns-3 c = c.«open».ensures ∙ opens c.before.before.args.row c.before.before.args.x c.before.if1.false
 pub returns : goal.returns
 returns c = c.«open».ensures ∙ opens c.args.row c.args.x c.if-row.false
