@@ -1,3 +1,4 @@
+#![tactic(auto)]
 // The engine: a rule set's octets and a flow sample's octets give the machine's answer, the flow key and the number of rules come to (document 01, "Rule
 // sets"; RFC 2722, section 4.4).
 ghost use Rattle.std.specs.Prelude.{◌≡◌, ◌+◌, ◌-◌, ◌^◌, ◌≤◌, ◌<◌, get_or, not, ◌&&◌};

@@ -1,5 +1,6 @@
-// The proved core for programs in C and Rust: the functions of the crates whose names end in _calls, under names that C can call, with the same contracts. A
-// slice is passed as a pointer and a length. include/sflow4.h says for each function what it answers.
+#![tactic(auto)]
+// The proved core for programs in C and Rust: the functions of the crates whose names end in _calls, under the names that C calls, with the same contracts.
+// Crate export_c makes the static library of them, where a slice is passed as a pointer and a length; include/sflow4.h says for each function what it answers.
 ghost use Rattle.xdr.specs.Writes.{afterwards};
 ghost use Rattle.engine.specs.Results.{engine_of};
 ghost use Rattle.extended_data.specs.ExtendedData.{segment_of, as_segment, extended_of, as_extended};
@@ -27,16 +28,14 @@ ghost use Rattle.std.specs.Prelude.{eqb, length, not, ◌≡◌};
 ghost use Rattle.std.proofs.Math.Option.{some};
 
 // `read_calls::read`.
-#[unsafe(no_mangle)]
-pub extern "C" fn sflow4_read(octets: &[u8], out: &mut [u64]) -> u32
+pub fn sflow4_read(octets: &[u8], out: &mut [u64]) -> u32
     ensures { afterwards result out.new ≡ tell (head_report (datagram_read octets.now)) out.old }
 {
     read_calls::read(octets, out)
 }
 
 // `sample_calls::sample`.
-#[unsafe(no_mangle)]
-pub extern "C" fn sflow4_sample(octets: &[u8], at: usize, out: &mut [u64]) -> u32
+pub fn sflow4_sample(octets: &[u8], at: usize, out: &mut [u64]) -> u32
     ensures { afterwards result out.new
         ≡ tell (sample_report octets.now (as_sample at (mapped (sample_of at) (decode sample_type octets.now at)))) out.old }
 {
@@ -44,8 +43,7 @@ pub extern "C" fn sflow4_sample(octets: &[u8], at: usize, out: &mut [u64]) -> u3
 }
 
 // `read_calls::extended`.
-#[unsafe(no_mangle)]
-pub extern "C" fn sflow4_extended(octets: &[u8], at: usize, out: &mut [u64]) -> u32
+pub fn sflow4_extended(octets: &[u8], at: usize, out: &mut [u64]) -> u32
     ensures { afterwards result out.new
         ≡ tell (extended_report (as_extended (mapped (extended_of at) (decode extended_data_type octets.now at)))) out.old }
 {
@@ -53,8 +51,7 @@ pub extern "C" fn sflow4_extended(octets: &[u8], at: usize, out: &mut [u64]) -> 
 }
 
 // `read_calls::segment`.
-#[unsafe(no_mangle)]
-pub extern "C" fn sflow4_segment(octets: &[u8], at: usize, out: &mut [u64]) -> u32
+pub fn sflow4_segment(octets: &[u8], at: usize, out: &mut [u64]) -> u32
     ensures { afterwards result out.new
         ≡ tell (segment_report (as_segment (mapped (segment_of at) (decode as_path_type octets.now at)))) out.old }
 {
@@ -62,24 +59,21 @@ pub extern "C" fn sflow4_segment(octets: &[u8], at: usize, out: &mut [u64]) -> u
 }
 
 // `rule_calls::check`.
-#[unsafe(no_mangle)]
-pub extern "C" fn rtfm_check(rules: &[u8], out: &mut [u64]) -> u32
+pub fn rtfm_check(rules: &[u8], out: &mut [u64]) -> u32
     ensures { afterwards result out.new ≡ tell (check_report (check rules.now)) out.old }
 {
     rule_calls::check(rules, out)
 }
 
 // `rule_calls::run`.
-#[unsafe(no_mangle)]
-pub extern "C" fn rtfm_run(rules: &[u8], sample: &[u8], out: &mut [u64]) -> u32
+pub fn rtfm_run(rules: &[u8], sample: &[u8], out: &mut [u64]) -> u32
     ensures { afterwards result out.new ≡ tell (engine_report (engine_of rules.now sample.now)) out.old }
 {
     rule_calls::run(rules, sample, out)
 }
 
 // `write_calls::append`.
-#[unsafe(no_mangle)]
-pub extern "C" fn sflow4_append(
+pub fn sflow4_append(
     buffer: &mut [u8],
     limit: usize,
     length: usize,
@@ -93,8 +87,7 @@ pub extern "C" fn sflow4_append(
 }
 
 // `form_calls::append_header`.
-#[unsafe(no_mangle)]
-pub extern "C" fn sflow4_append_header(
+pub fn sflow4_append_header(
     buffer: &mut [u8],
     limit: usize,
     length: usize,
@@ -122,8 +115,7 @@ pub extern "C" fn sflow4_append_header(
 }
 
 // `form_calls::append_ipv4`.
-#[unsafe(no_mangle)]
-pub extern "C" fn sflow4_append_ipv4(
+pub fn sflow4_append_ipv4(
     buffer: &mut [u8],
     limit: usize,
     length: usize,
@@ -139,8 +131,7 @@ pub extern "C" fn sflow4_append_ipv4(
 }
 
 // `form_calls::append_ipv6`.
-#[unsafe(no_mangle)]
-pub extern "C" fn sflow4_append_ipv6(
+pub fn sflow4_append_ipv6(
     buffer: &mut [u8],
     limit: usize,
     length: usize,
@@ -156,8 +147,7 @@ pub extern "C" fn sflow4_append_ipv6(
 }
 
 // `write_calls::append_counters`.
-#[unsafe(no_mangle)]
-pub extern "C" fn sflow4_append_counters(
+pub fn sflow4_append_counters(
     buffer: &mut [u8],
     limit: usize,
     length: usize,
@@ -185,8 +175,7 @@ pub extern "C" fn sflow4_append_counters(
 }
 
 // `write_calls::start`.
-#[unsafe(no_mangle)]
-pub extern "C" fn sflow4_start(
+pub fn sflow4_start(
     buffer: &mut [u8],
     limit: usize,
     agent_type: u32,
@@ -216,8 +205,7 @@ pub extern "C" fn sflow4_start(
 }
 
 // `write_calls::write_counters`.
-#[unsafe(no_mangle)]
-pub extern "C" fn sflow4_write_counters(
+pub fn sflow4_write_counters(
     sequence_number: u32,
     source_id: u32,
     interval: u32,
@@ -241,8 +229,7 @@ pub extern "C" fn sflow4_write_counters(
 }
 
 // `form_calls::write`.
-#[unsafe(no_mangle)]
-pub extern "C" fn sflow4_write(
+pub fn sflow4_write(
     kind: u32,
     words: &[u32],
     first: &[u8],
@@ -257,8 +244,7 @@ pub extern "C" fn sflow4_write(
 }
 
 // `ledger_calls::enter`.
-#[unsafe(no_mangle)]
-pub extern "C" fn sflow4_ledger(
+pub fn sflow4_ledger(
     table: &mut [u64],
     agent_type: u32,
     a: u32,
@@ -286,16 +272,14 @@ pub extern "C" fn sflow4_ledger(
 }
 
 // `line_calls::list`.
-#[unsafe(no_mangle)]
-pub extern "C" fn sflow4_lines(capture: &[u8], output: &mut [u8], state: &mut [u64]) -> u32
+pub fn sflow4_lines(capture: &[u8], output: &mut [u8], state: &mut [u64]) -> u32
     ensures { handed result output.new state.new ≡ listed_lines capture.now output.old state.old }
 {
     line_calls::list(capture, output, state)
 }
 
 // `line_calls::end_lines`.
-#[unsafe(no_mangle)]
-pub extern "C" fn sflow4_end_lines(
+pub fn sflow4_end_lines(
     output: &mut [u8],
     offset: u64,
     records: u64,

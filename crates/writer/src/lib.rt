@@ -1,3 +1,4 @@
+#![tactic(auto)]
 // Writes sFlow version 4 datagrams into a lent buffer: a datagram without samples, and one sample more at its end (document 01, "Writer"). A refusal
 // leaves every octet of the buffer as it was; octets behind the new end stay.
 ghost use Rattle.std.specs.Prelude.{◌≡◌, length, ◌+◌};

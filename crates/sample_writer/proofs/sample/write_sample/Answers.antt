@@ -1,0 +1,28 @@
+use mathlib.Core.Path.{sym, ◌∙◌}
+use Rattle.sflow.specs.Datagram.{sample_type}
+use Rattle.form_writer.proofs.Allowances.{none_given}
+use Rattle.form_writer.proofs.Allowed.{value_there, value_elsewhere, value_nowhere}
+use Rattle.sample_writer.proofs.OneSample.{sample_done, sample_full}
+use Rattle.sample_writer.proofs.sample.write_sample.Goals as goal
+
+pub returns-in_default : goal.returns-in_default
+returns-in_default c = none_given sample_type _ _ (value_nowhere sample_type c.args.sample.now _ _ (sym c.pass_sample.ensures ∙ c.in_default.is))
+
+pub returns-then-end-sample : goal.returns-then-end-sample
+returns-then-end-sample c =
+    none_given sample_type _ _
+    (value_elsewhere sample_type c.args.sample.now _ (sym c.pass_sample.ensures ∙ c.in-Next.is) c.if-end-sample.true)
+
+pub returns-in-WrittenTo : goal.returns-in-WrittenTo
+returns-in-WrittenTo c =
+    let octets = c.type_inv.sample in
+    let sample = c.args.sample.now in
+    let v = value_there sample_type sample _ (sym c.pass_sample.ensures ∙ c.in-Next.is) c.if-end-sample.false in
+    sample_done sample (λ i. (octets i).fits) v.0 _ _ _ _ v.1 c.write_octets.ensures c.in-WrittenTo.is
+
+pub returns-in-Full : goal.returns-in-Full
+returns-in-Full c =
+    let octets = c.type_inv.sample in
+    let sample = c.args.sample.now in
+    let v = value_there sample_type sample _ (sym c.pass_sample.ensures ∙ c.in-Next.is) c.if-end-sample.false in
+    sample_full sample (λ i. (octets i).fits) v.0 _ _ _ v.1 c.write_octets.ensures c.in-Full.is
