@@ -1,3 +1,4 @@
+#![tactic(auto)]
 // The check and the engine of rule sets as functions on numbers and slices. Crate export gives them to C and Rust.
 ghost use Rattle.std.specs.Prelude.{◌≡◌, ◌++◌, length};
 ghost use Rattle.xdr.specs.Writes.{afterwards};

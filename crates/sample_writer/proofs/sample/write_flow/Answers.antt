@@ -15,28 +15,13 @@ returns-then-end-packet c =
     packet_none _ _ _ _
     (value_elsewhere packet_data_type c.args.packet.now _ (sym c.pass_packet.ensures ∙ c.in-Next.is) c.if-end-packet.true)
 
--- TODO no step well-formed at Start (there: ) nor beside it
--- was: returns-3 : tie.Need-returns-3
--- was: returns-3 c =
--- was:     let at-if1 = c.before.before.before.before.before in
--- was:     let at-end = at-if1.before.before in
--- was:     let at-pass-packet = at-end.before.before in
--- was:     let extended = at-pass-packet.before.shared-slice-known2.given in
--- was:     let packet = at-pass-packet.before.before.shared-slice-known.given in
--- was:     let entry = at-pass-packet.before.before.before.before in
--- was:     let p = value_there packet_data_type entry.args.packet.now _ (sym at-pass-packet.pass-packet.ensures ∙ at-end.end.given.1) at-if1.if1.false in
--- was:     let t = (value_in_exactly packet_data_type entry.args.packet.now (λ i. (packet i).fits) p.0).0 p.1 in
--- was:     let words = entry.well-formed.1.0 in
--- was:     packet_given _ _ p.0 _ _ _ _ p.1
--- was:     (flow_put entry.args.words (record { sequence = omega (arith, words); source = omega (arith, words); rate = omega (arith, words); pool = omega (arith, words); drops = omega (arith, words); input = omega (arith, words); output = omega (arith, words) }) p.0 t.0 _ _ (octets_alone entry.args.packet.now p.0 t.1) entry.args.count (omega arith)
--- was:     entry.args.extended.now (λ i. (extended i).fits) _ _ _ c.before.before.put-flow.ensures)
 pub returns : goal.returns
 returns c =
     let extended = c.type_inv.extended in
     let packet = c.type_inv.packet in
     let p = value_there packet_data_type c.args.packet.now _ (sym c.pass_packet.ensures ∙ c.in-Next.is) c.if-end-packet.false in
     let t = (value_in_exactly packet_data_type c.args.packet.now (λ i. (packet i).fits) p.0).0 p.1 in
-    let words = entry.well-formed.1.0 in
+    let words = c.well_formed.1.0 in
     packet_given _ _ p.0 _ _ _ _ p.1
     (flow_put c.args.words (record { sequence = omega (arith, words); source = omega (arith, words); rate = omega (arith, words); pool = omega (arith, words); drops = omega (arith, words); input = omega (arith, words); output = omega (arith, words) }) p.0 t.0 _ _ (octets_alone c.args.packet.now p.0 t.1) c.args.count (omega arith)
     c.args.extended.now (λ i. (extended i).fits) _ _ _ c.put_flow.ensures)

@@ -25,26 +25,11 @@ returns-then-header-gt256 c =
     (entries_in extended_data_type c.args.count c.args.extended.now) _
     (header_long _ _ c.args.header.now c.if-header-gt256.true)
 
--- TODO no step well-formed at Start (there: ) nor beside it
--- was: returns-4 : tie.Need-returns-4
--- was: returns-4 c =
--- was:     let at-if3 = c.before.before.before.before.before in
--- was:     let at-if2 = at-if3.before in
--- was:     let at-if1 = at-if2.before in
--- was:     let extended = at-if1.before.shared-slice-known2.given in
--- was:     let header = at-if1.before.before.shared-slice-known.given in
--- was:     let entry = at-if1.before.before.before.before in
--- was:     let words = entry.well-formed.1.0 in
--- was:     flow_put entry.args.words (record { sequence = omega (arith, words); source = omega (arith, words); rate = omega (arith, words); pool = omega (arith, words); drops = omega (arith, words); input = omega (arith, words); output = omega (arith, words) })
--- was:     (header_value entry.args.protocol entry.args.frame-length entry.args.header.now)
--- was:     (header_valid entry.args.protocol entry.args.frame-length entry.args.header.now entry.ranges.protocol.fits at-if1.if1.false at-if2.if2.false entry.ranges.frame-length.fits
--- was:     at-if3.if3.false (λ i. (header i).fits)) _ _ (header_words entry.args.protocol entry.args.frame-length entry.args.header.now) entry.args.count entry.ranges.count.fits
--- was:     entry.args.extended.now (λ i. (extended i).fits) _ _ _ c.before.before.put-flow.ensures
 pub returns : goal.returns
 returns c =
     let extended = c.type_inv.extended in
     let header = c.type_inv.header in
-    let words = entry.well-formed.1.0 in
+    let words = c.well_formed.1.0 in
     flow_put c.args.words (record { sequence = omega (arith, words); source = omega (arith, words); rate = omega (arith, words); pool = omega (arith, words); drops = omega (arith, words); input = omega (arith, words); output = omega (arith, words) })
     (header_value c.args.protocol c.args.frame_length c.args.header.now)
     (header_valid c.args.protocol c.args.frame_length c.args.header.now c.ranges.protocol.fits c.if-protocol-lt1.false c.if-protocol-gt13.false c.ranges.frame_length.fits

@@ -5,24 +5,12 @@ use Rattle.form_writer.proofs.PacketOctets.{ipv4_octets}
 use Rattle.sample_writer.proofs.Flows.{flow_put, words_alone}
 use Rattle.sample_writer.proofs.sample.write_ipv4_flow.Goals as goal
 
--- TODO no step well-formed at After-slice_known (there: slice_known) nor beside it
--- was: returns : tie.Need-returns
--- was: returns c =
--- was:     let extended = c.before.before.before.before.before.before.shared-slice-known.given in
--- was:     let entry = c.before.before.before.before.before.before.before.before in
--- was:     let x = entry.args.packet in
--- was:     let words = entry.well-formed.1.0 in
--- was:     let packet = entry.well-formed.1.1.0 in
--- was:     flow_put entry.args.words (record { sequence = omega (arith, words); source = omega (arith, words); rate = omega (arith, words); pool = omega (arith, words); drops = omega (arith, words); input = omega (arith, words); output = omega (arith, words) }) (ipv4_value x)
--- was:     (ipv4_valid _ _ _ _ _ _ _ _ (omega (arith, packet)) (omega (arith, packet)) (omega (arith, packet)) (omega (arith, packet)) (omega (arith, packet)) (omega (arith, packet)) (omega (arith, packet)) (omega (arith, packet))) _ _
--- was:     (words_alone _ (ipv4_value x) (ipv4_octets _ _ _ _ _ _ _ _)) entry.args.count (omega arith) entry.args.extended.now (λ i. (extended i).fits) _ _ _
--- was:     c.before.before.put-flow.ensures
 pub returns : goal.returns
 returns c =
     let extended = c.type_inv.extended in
     let x = c.args.packet in
-    let words = entry.well-formed.1.0 in
-    let packet = entry.well-formed.1.1.0 in
+    let words = c.well_formed.1.0 in
+    let packet = c.well_formed.1.1.0 in
     flow_put c.args.words (record { sequence = omega (arith, words); source = omega (arith, words); rate = omega (arith, words); pool = omega (arith, words); drops = omega (arith, words); input = omega (arith, words); output = omega (arith, words) }) (ipv4_value x)
     (ipv4_valid _ _ _ _ _ _ _ _ (omega (arith, packet)) (omega (arith, packet)) (omega (arith, packet)) (omega (arith, packet)) (omega (arith, packet)) (omega (arith, packet)) (omega (arith, packet)) (omega (arith, packet))) _ _
     (words_alone _ (ipv4_value x) (ipv4_octets _ _ _ _ _ _ _ _)) c.args.count (omega arith) c.args.extended.now (λ i. (extended i).fits) _ _ _
