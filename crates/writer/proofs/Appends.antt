@@ -62,7 +62,7 @@ so_far_is limit size at count d o e = allowed (limit_allowed limit (length d)) r
     so_far (found v end) f i h g =
         let w = count_inside (take size d) (octets_take size d o) v end f in
         let long : length (take size d) ≡ size = rw length-take (omega arith) in
-        let at_is : count_at v ≡ at = cc in
+        let at-is : count_at v ≡ at = cc in
         record { inside = i; small = h; word = omega arith }
     so_far (refused why p) f i h g = let z : ◌≡◌ {A = ℕ} 0 1 = cc in absurd (omega arith)
 

@@ -13,7 +13,7 @@ pub loop-left-init : goal.loop-left-init
 loop-left-init c = (
   omega arith,
   c.no_key-k.ensures
-      ∙ sym (key_none (item_of (rule_of c.args.s.now) (attribute c.args.a)) c.args.t3.queue),
+      ∙ sym (key_none (item_of (rule_of c.args.s.now) (attribute c.args.a)) c.args.m.queue),
 )
 
 pub offset_bounds-m-j : goal.offset_bounds-m-j
@@ -31,10 +31,10 @@ loop-left-preserved c =
       omega arith,
       c.put_item-k.ensures
           ∙ ap (λ (k : FlowKey). put k c.item_of-x.result) c.loop-left.invariant.1
-          ∙ ap (put (key_of (map (item_of (rule_of c.args.s.now) (attribute c.args.a)) (stack_of c.args.t3.queue c.loop-left.j))))
+          ∙ ap (put (key_of (map (item_of (rule_of c.args.s.now) (attribute c.args.a)) (stack_of c.args.m.queue c.loop-left.j))))
           (c.item_of-x.ensures ∙ ap (item_of (rule_of c.args.s.now) (attribute c.args.a)) c.wide-i.ensures.0)
-          ∙ sym (key_more (item_of (rule_of c.args.s.now) (attribute c.args.a)) c.args.t3.queue c.loop-left.j),
+          ∙ sym (key_more (item_of (rule_of c.args.s.now) (attribute c.args.a)) c.args.m.queue c.loop-left.j),
     )
 
 pub returns : goal.returns
-returns c = let e : c.loop-left.j ≡ c.args.t3.held = omega arith in rw e at c.loop-left.invariant.1
+returns c = let e : c.loop-left.j ≡ c.args.m.held = omega arith in rw e at c.loop-left.invariant.1
