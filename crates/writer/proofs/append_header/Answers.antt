@@ -13,24 +13,21 @@ slice_bounds-write_header_flow-count c =
     (so_far_is _ _ _ _ _ (λ i. (c.slice_known-1.given i).fits)
     (sym c.check_so_far.ensures ∙ c.in-Ready.is)).small
 
--- TODO no place before Start
--- was: raise-count-requires : tie.Need-raise-count-requires
--- was: raise-count-requires c κs =
--- was:     let at-write-header-flow = c.before.before.before in
--- was:     let at_at = at-write-header-flow.before.before.before in
--- was:     let at-check-so-far = at_at.before.before in
--- was:     let at-slice-known = at-check-so-far.before.before.before.before in
--- was:     let entry = at-slice-known.before in
--- was:     room_fitting _ _ _ _
--- was:     (so_far_is _ _ _ _ _ (λ i. (at-slice-known.slice-known.given i).fits) (sym at-check-so-far.check-so-far.ensures ∙ at_at.at.given.1))
--- was:     (allows_given sample_type (flow_given entry.args.words (some (header_value entry.args.protocol entry.args.frame-length entry.args.header.now)) (entries_in extended_data_type entry.args.count entry.args.extended.now))) (encode_given sample_type (flow_given entry.args.words (some (header_value entry.args.protocol entry.args.frame-length entry.args.header.now)) (entries_in extended_data_type entry.args.count entry.args.extended.now))) _ _
--- was:     at-write-header-flow.write-header-flow.ensures
+pub slice_bounds-write_header_flow-start : goal.slice_bounds-write_header_flow-start
+slice_bounds-write_header_flow-start c =
+    (so_far_is _ _ _ _ _ (λ i. (c.slice_known-1.given i).fits)
+    (sym c.check_so_far.ensures ∙ c.in-Ready.is)).small
+
+pub slice_bounds-write_header_flow-end : goal.slice_bounds-write_header_flow-end
+slice_bounds-write_header_flow-end c =
+    (so_far_is _ _ _ _ _ (λ i. (c.slice_known-1.given i).fits)
+    (sym c.check_so_far.ensures ∙ c.in-Ready.is)).inside
+
 pub raise_count-requires : goal.raise_count-requires
 raise_count-requires c =
-    let entry = at-slice-known.before in
     room_fitting _ _ _ _
     (so_far_is _ _ _ _ _ (λ i. (c.slice_known-1.given i).fits) (sym c.check_so_far.ensures ∙ c.in-Ready.is))
-    (allows_given sample_type (flow_given entry.args.words (some (header_value entry.args.protocol entry.args.frame-length entry.args.header.now)) (entries_in extended_data_type entry.args.count entry.args.extended.now))) (encode_given sample_type (flow_given entry.args.words (some (header_value entry.args.protocol entry.args.frame-length entry.args.header.now)) (entries_in extended_data_type entry.args.count entry.args.extended.now))) _ _
+    (allows_given sample_type (flow_given c.args.words (some (header_value c.args.protocol c.args.frame_length c.args.header.now)) (entries_in extended_data_type c.args.count c.args.extended.now))) (encode_given sample_type (flow_given c.args.words (some (header_value c.args.protocol c.args.frame_length c.args.header.now)) (entries_in extended_data_type c.args.count c.args.extended.now))) _ _
     c.write_header_flow-answer.ensures
 
 pub returns-in-NotReady : goal.returns-in-NotReady
