@@ -1,3 +1,4 @@
+#![tactic(auto)]
 // Forms written and flow samples appended from words and octets, as functions on numbers and slices. Crate export gives them to C and Rust.
 ghost use Rattle.std.specs.Prelude.{◌+◌, ◌≤◌, ◌≡◌, length};
 ghost use Rattle.std.proofs.Math.Option.{none, some};

@@ -1,3 +1,4 @@
+#![tactic(auto)]
 // The ledger of lost flow samples as a function on numbers: its table is a lent array of 64 rows, each of eleven numbers. Crate export gives it to C and Rust.
 ghost use Rattle.std.specs.Prelude.{◌*◌, ◌%◌, ◌^◌, ◌≤◌, ◌<◌, ◌≡◌, cond, not, eqb, length, drop};
 ghost use Rattle.xdr.specs.Writes.{afterwards};

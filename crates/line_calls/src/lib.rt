@@ -1,3 +1,4 @@
+#![tactic(auto)]
 // The listing of a capture as lines of text, as functions on numbers and slices. A capture may be listed in parts: the numbers that one call leaves are those
 // that the next one begins with. Crate export gives them to C and Rust.
 ghost use Rattle.std.specs.Prelude.{◌≤◌, ◌≡◌, not, length, eqb};

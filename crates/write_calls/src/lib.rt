@@ -1,3 +1,4 @@
+#![tactic(auto)]
 // Writing as functions on numbers and slices: a datagram started, a sample appended as octets, a counter sample written or appended. Each function answers 0
 // and puts a length into the lent array, or answers a refusal's number; a refusal leaves the buffer and the array as they were. Crate export gives them to C
 // and Rust.

@@ -11,8 +11,8 @@ loop-i-init c = (search rules, refl, refl)
 
 pub loop-i-preserved : goal.loop-i-preserved
 loop-i-preserved c = let a = c.args in
-    (search rules, simp length-set c.loop-i.invariant.1, rw (c.loop-i.invariant.2, add-one) (copy_step a.t1 (replicate 23 0) c.loop-i.i (search rules) (search rules)))
+    (search rules, simp length-set c.loop-i.invariant.1, rw (c.loop-i.invariant.2, add-one) (copy_step a.xs (replicate 23 0) c.loop-i.i (search rules) (search rules)))
 
 pub returns : goal.returns
 returns c = let a = c.args in
-    (c.loop-i.invariant.2 ∙ rw (le_antisymm c.loop-i.invariant.0 c.loop-i-test.false) (copied_whole a.t1 (replicate 23 0) 23 (search rules) refl), c.loop-i.invariant.1)
+    (c.loop-i.invariant.2 ∙ rw (le_antisymm c.loop-i.invariant.0 c.loop-i-test.false) (copied_whole a.xs (replicate 23 0) 23 (search rules) refl), c.loop-i.invariant.1)
