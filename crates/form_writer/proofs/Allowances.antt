@@ -1,11 +1,11 @@
 -- What a writer answers of a value: the octets of one that its form allows, 22 of any other. Assumes nothing.
 use Prim.Native.Nat.{ℕ}
-use mathlib.Core.Path.{◌≡◌, refl, ◌∙◌}
+use mathlib.Core.Path.{◌≡◌, ◌∙◌}
 use mathlib.Core.Bool.{Bool, true, false}
 use mathlib.Core.List.{List}
 use mathlib.Core.Option.{Option, none, some}
 use Rattle.xdr.specs.Writes.{afterwards}
-use Rattle.sflow.specs.Grammar.{Form, Value, Valid, encode, allows_given, encode_given}
+use Rattle.sflow.specs.Grammar.{Form, Value, Valid, encode}
 use Rattle.sflow.proofs.Allows.{valid_allowed, invalid_refused}
 use Rattle.form_writer.specs.declared.parts.WriteAnswer.{WriteAnswer}
 use Rattle.form_writer.specs.declared.parts.WriteAnswer.TheVariants.{BadValue}

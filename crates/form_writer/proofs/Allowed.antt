@@ -1,13 +1,13 @@
 -- Whether octets are exactly one value, or so many entries, by what reading them answers. Assumes nothing.
 use Prim.Native.Nat.{ℕ}
-use mathlib.Core.Path.{◌≡◌, refl, ap, ◌∙◌}
+use mathlib.Core.Path.{◌≡◌, ap, ◌∙◌}
 use mathlib.Core.List.{List}
-use mathlib.Core.Option.{Option, none, some}
+use mathlib.Core.Option.{none, some}
 use lib.ListN.{length}
 use borrow.Author.Tests.{eq-eqb, ne_eqb}
 use Rattle.sflow.specs.declared.Refusal.{Refusal}
 use Rattle.sflow.specs.Grammar.{Form, Value}
-use Rattle.sflow.specs.Decode.{Decoded, found, refused, entries, decode, ending_at, value_in, entries_in}
+use Rattle.sflow.specs.Decode.{Decoded, found, entries, decode, ending_at, value_in, entries_in}
 use Rattle.fields.specs.declared.runs.Passed.TheVariants.{Next, Refused}
 use Rattle.fields.specs.Parts.{as_passed}
 use Rattle.fields.proofs.Passing.{passed_next, passed_refused}

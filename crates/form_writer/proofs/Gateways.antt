@@ -1,8 +1,8 @@
 -- What is answered of a gateway whose path is given as octets. Assumes nothing.
 use Prim.Native.Nat.{ℕ, ◌^◌, ◌≤◌, ◌<◌}
-use mathlib.Core.Path.{◌≡◌, refl, ap}
+use mathlib.Core.Path.{◌≡◌}
 use mathlib.Core.List.{List, [], ◌∷◌}
-use mathlib.Core.Option.{Option, none, some, map}
+use mathlib.Core.Option.{none, some}
 use lib.ListN.{length}
 use Rattle.xdr.specs.Numbers.{Octets}
 use Rattle.xdr.specs.Writes.{afterwards}

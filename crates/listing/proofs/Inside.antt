@@ -1,5 +1,5 @@
 -- The place that listing comes to lies inside the buffer and the output; where it moves in neither, nothing was listed. Assumes nothing.
-use Rattle.std.proofs.Common.{◌≡◌, ℕ, zero, suc, ◌+◌, ◌-◌, ◌<◌, ◌≤◌, Bool, true, false, cond, ◌⊎◌, List, ◌++◌, length, drop, sym, refl, ap, ◌∙◌, subst, inl, inr, arith, length-append}
+use Rattle.std.proofs.Common.{◌≡◌, ℕ, zero, suc, ◌+◌, ◌<◌, ◌≤◌, Bool, true, false, cond, ◌⊎◌, List, ◌++◌, length, drop, sym, refl, ap, ◌∙◌, subst, inl, inr, arith, length-append}
 use Rattle.record_lines.specs.declared.Listed.{Listed}
 use Rattle.xdr.specs.Writes.{stored, Afterwards, afterwards}
 use Rattle.record_lines.specs.Records.{list_record}

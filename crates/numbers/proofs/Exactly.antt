@@ -1,5 +1,5 @@
 -- What the number that is reported of reading says of what it finds. Assumes nothing.
-use Prim.Native.Nat.{ℕ, ◌≤◌, ◌<◌}
+use Prim.Native.Nat.{ℕ, ◌≤◌}
 use native.Mathlib.Omega.{arith}
 use mathlib.Core.Path.{◌≡◌, refl, ap}
 use mathlib.Core.Logic.{◌↔◌}
@@ -8,7 +8,7 @@ use Rattle.sflow.specs.declared.Refusal.{Refusal}
 use Rattle.sflow.specs.declared.Refusal.TheVariants.{CutItem, CutString, Version, AddressType, SampleType, PacketDataType, HeaderProtocol, HeaderLength, ExtendedDataType, SegmentType, UrlDirection, CountersVersion, Padding, Trailing, TooLong}
 use Rattle.sflow.specs.Refusals.{refusal_number}
 use Rattle.sflow.specs.Decode.{Decoded, found, refused}
-use Rattle.numbers.specs.Reports.{Report, report, refusal_report, decoded_report}
+use Rattle.numbers.specs.Reports.{Report, report, decoded_report}
 
 -- the numbers of refusals are 1 to 14
 pub refusals_within : (why : Refusal) → (1 ≤ refusal_number why) × (refusal_number why ≤ 14)

@@ -22,7 +22,7 @@ use Rattle.reader.specs.declared.datagram.Step.TheVariants.{End, Refused as Stop
 use Rattle.fields.specs.Parts.{size, as_passed}
 use Rattle.reader.specs.Samples.{sample_of}
 use Rattle.reader.specs.Datagrams.{head_at, datagram_of, step_at, walk, walk_on, samples_from}
-use Rattle.reader.proofs.Wholes.{read_head_refused, read_samples_refused, read_samples}
+use Rattle.reader.proofs.Wholes.{read_samples_refused, read_samples}
 
 -- ---- one step
 

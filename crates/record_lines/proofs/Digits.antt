@@ -1,5 +1,5 @@
 -- Laws of a number's digits. Assumes nothing.
-use Prim.Native.Nat.{ℕ, zero, suc, ◌+◌, ◌-◌, ◌*◌, ◌/◌, ◌%◌, ◌^◌, ◌≤◌, ◌<◌}
+use Prim.Native.Nat.{ℕ, zero, suc, ◌+◌, ◌-◌, ◌/◌, ◌%◌, ◌^◌, ◌≤◌, ◌<◌}
 use native.Mathlib.Nat.{not-suc-le-zero, pow-suc, mul_comm, div-div-eq-div-mul}
 use native.Mathlib.Omega.{arith}
 use mathlib.Core.Path.{◌≡◌, refl, sym, ap, ◌∙◌}
@@ -9,7 +9,7 @@ use lib.Seq.{take-set-le, drop-cons, drop-set-lt, get_or-set_same}
 use borrow.Author.Tests.{lt-ltb, le-ltb}
 use Rattle.xdr.specs.Writes.{stored}
 use Rattle.record_lines.specs.Lines.{Puts}
-use Rattle.record_lines.specs.Digits.{digit, last_digits, shown, decimal}
+use Rattle.record_lines.specs.Digits.{digit, last_digits, shown}
 
 last_length : (b k n : ℕ) → length (last_digits b k n) ≡ k
 unfolding last_digits

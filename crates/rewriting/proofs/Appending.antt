@@ -13,7 +13,7 @@ use Rattle.xdr.specs.Writes.{stored, Afterwards, afterwards}
 use Rattle.sflow.specs.Grammar.{Value, Valid, Each, encode}
 use Rattle.sflow.specs.Datagram.{sample_type, sample_datagram, samples}
 use Rattle.form_writer.specs.declared.parts.WriteAnswer.{WriteAnswer}
-use Rattle.form_writer.specs.declared.parts.WriteAnswer.TheVariants.{Done, NoRoom}
+use Rattle.form_writer.specs.declared.parts.WriteAnswer.TheVariants.{NoRoom}
 use Rattle.fields.specs.declared.address.Address.{Address}
 use Rattle.writer.specs.Datagrams.{limit_allowed, start_value, started, with_samples}
 use Rattle.writer.proofs.Theorems.{holds, encoded_length, flat_append, flat_one, append_fits, append_full, start_short, start_holds}

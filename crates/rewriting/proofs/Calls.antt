@@ -4,13 +4,13 @@ use native.Mathlib.Omega.{arith}
 use mathlib.Core.Path.{◌≡◌, refl, sym, ap, ◌∙◌}
 use mathlib.Core.Bool.{true}
 use mathlib.Core.List.{List, [], ◌∷◌, ◌++◌, map}
-use mathlib.Core.Option.{Option, some}
+use mathlib.Core.Option.{some}
 use lib.ListN.{length, replicate}
 use lib.Seq.{take_at}
 use borrow.Author.Tests.{le-leb}
 use Rattle.xdr.specs.Numbers.{Octets}
-use Rattle.xdr.specs.Writes.{stored, Afterwards, afterwards}
-use Rattle.sflow.specs.Grammar.{Value, Valid, encode}
+use Rattle.xdr.specs.Writes.{stored, afterwards}
+use Rattle.sflow.specs.Grammar.{Value, encode}
 use Rattle.sflow.specs.Decode.{Decoded, found, refused, mapped, decode, entries_in, EndToEnd}
 use Rattle.sflow.specs.Datagram.{address, counters_type, as_path_type, extended_data_type, sample_type, sample_datagram, agent_address, samples}
 use Rattle.sflow.specs.Reading.{read_datagram}
@@ -22,16 +22,13 @@ use Rattle.packet_data.specs.declared.PacketData.TheVariants.{Header, Ipv4, Ipv6
 use Rattle.extended_data.specs.declared.Extended.{Extended}
 use Rattle.extended_data.specs.declared.Extended.TheVariants.{IsSwitch, IsRouter, IsGateway, IsUser, IsUrl}
 use Rattle.extended_data.specs.declared.Segment.{Segment}
-use Rattle.extended_data.specs.ExtendedData.{segment_of, as_segment, extended_of, as_extended}
+use Rattle.extended_data.specs.ExtendedData.{segment_of, extended_of}
 use Rattle.counter_data.specs.CounterBodies.{counters_found}
 use Rattle.reader.specs.declared.sample.FlowWords.{FlowWords}
-use Rattle.reader.specs.declared.sample.FlowSample.{FlowSample}
 use Rattle.reader.specs.declared.sample.SampleValues.{SampleValues}
 use Rattle.reader.specs.declared.sample.SampleValues.TheVariants.{Flow, Counters}
-use Rattle.reader.specs.declared.sample.Sample.{Sample}
 use Rattle.reader.specs.Samples.{sample_of}
 use Rattle.reader.specs.Datagrams.{datagram_of}
-use Rattle.form_writer.specs.declared.parts.WriteAnswer.{WriteAnswer}
 use Rattle.form_writer.specs.declared.parts.WriteAnswer.TheVariants.{Done}
 use Rattle.form_writer.specs.Values.{gateway_given}
 use Rattle.sample_writer.specs.FlowValues.{flow_given}
@@ -44,8 +41,8 @@ use Rattle.read_calls.specs.Reading.{entry_numbers, segment_numbers}
 use Rattle.read_calls.proofs.Told.{extended_told, segment_told}
 use Rattle.sample_calls.specs.SampleReports.{placed_numbers}
 use Rattle.rewriting.specs.Forms.{words_in, write_then, each_again, octets_written, packet_given, segment_given, path_again, extended_given, entries_again}
-use Rattle.rewriting.specs.Rewriting.{sample_given, append_each, Stopped}
-use Rattle.rewriting.specs.Calls.{StoppedByCalls, told0, each_called, segment_called, path_called, extended_called, entries_called, packet_called, sample_called, samples_called, rewritten_by_calls}
+use Rattle.rewriting.specs.Rewriting.{sample_given, append_each}
+use Rattle.rewriting.specs.Calls.{StoppedByCalls, told0, each_called, segment_called, path_called, extended_called, entries_called, sample_called, samples_called, rewritten_by_calls}
 use Rattle.rewriting.proofs.Samples.{sample_again}
 use Rattle.rewriting.proofs.Appending.{all_written, some_written}
 use Rattle.rewriting.proofs.Theorems.{standing, head_again, all_valid, octets_are, first_within}

@@ -5,7 +5,7 @@ use native.Mathlib.Nat.{div-add-mod'}
 use mathlib.Core.Path.{◌≡◌, refl, ap}
 use mathlib.Core.Bool.{Bool, true, false, cond, ◌||◌}
 use mathlib.Core.List.{List, [], ◌∷◌, flat_map}
-use lib.ListN.{length, replicate}
+use lib.ListN.{length}
 use lib.Dec.{T, eqb}
 use borrow.Author.Tests.{eqb-true}
 use Rattle.xdr.specs.Numbers.{number_at}

@@ -2,9 +2,9 @@
 use Prim.Native.Nat.{ℕ, zero, suc, ◌+◌, ◌-◌}
 use native.Mathlib.Omega.{arith}
 use Prim.{tt}
-use mathlib.Core.Path.{◌≡◌, refl, ap, ◌∙◌}
+use mathlib.Core.Path.{◌≡◌, ap}
 use mathlib.Core.List.{List, [], ◌∷◌, ◌++◌, flat_map}
-use mathlib.Core.Option.{Option, some}
+use mathlib.Core.Option.{some}
 use lib.ListN.{length}
 use Rattle.sflow.specs.Slices.{Slice}
 use Rattle.sflow.specs.Grammar.{Form, fixed, list, Arm, case, Value, Valid, encode}
@@ -14,10 +14,9 @@ use Rattle.sflow.proofs.Slices.{first, second}
 use Rattle.sflow.proofs.Items.{word_rest, each_length}
 use Rattle.sflow.proofs.Complete.{complete}
 use Rattle.sflow.proofs.Exact.{entries_encoded}
-use Rattle.fields.specs.Parts.{item, size, entries_at}
+use Rattle.fields.specs.Parts.{size, entries_at}
 use Rattle.packet_data.specs.Packets.{packet_of}
 use Rattle.extended_data.specs.ExtendedData.{extended_of}
-use Rattle.counter_data.specs.CounterBodies.{counters_found}
 use Rattle.reader.specs.declared.sample.SampleValues.TheVariants.{Flow, Counters}
 use Rattle.reader.specs.Samples.{flow_of, counters_of, sample_of}
 use Rattle.rewriting.specs.Forms.{packet_given, extended_given, entries_again}

@@ -1,5 +1,5 @@
 -- The values that writers are given of what the reader gives of each form (document 01, "Writer"); entries are written first, and given as octets.
-use Rattle.std.specs.Prelude.{ℕ, zero, suc, cond, List, [], ◌∷◌, ◌++◌, replicate}
+use Rattle.std.specs.Prelude.{ℕ, zero, suc, cond, List, [], ◌++◌, replicate}
 use Rattle.std.proofs.Math.Option.{Option, some}
 use Rattle.xdr.specs.Items.{numbers_at}
 use Rattle.sflow.specs.Grammar.{Form, Value, allows_given, encode_given}

@@ -9,7 +9,6 @@ use lib.ListN.{length, get_or, replicate}
 use lib.Dec.{eqb}
 use Rattle.rules.specs.declared.CheckRefusal.{CheckRefusal}
 use Rattle.rules.specs.declared.CheckRefusal.TheVariants.{Length, Mark, Attribute, Opcode, Limits, FirstRule, ReturnInMain, Target, Queue, Successor}
-use Rattle.rules.specs.declared.RuleCheck.TheVariants.{Breaks}
 use Rattle.rules.specs.declared.MachineAnswer.{MachineAnswer}
 use Rattle.rules.specs.declared.MachineAnswer.TheVariants.{Ignore, NoMatch, Count, CountPkt}
 use Rattle.rules.specs.declared.CheckAnswer.{CheckAnswer}

@@ -2,11 +2,10 @@
 use Prim.Native.Nat.{ℕ, zero, suc, ◌+◌, ◌-◌, ◌*◌, ◌≤◌, ◌<◌}
 use native.Mathlib.Nat.{mul-le-mul_right}
 use native.Mathlib.Omega.{arith}
-use mathlib.Core.Path.{◌≡◌, refl, sym, ◌∙◌}
+use mathlib.Core.Path.{◌≡◌, refl, sym}
 use mathlib.Core.Logic.{⊎_elim}
-use mathlib.Core.List.{List, [], ◌∷◌}
+use mathlib.Core.List.{List, []}
 use mathlib.Core.Bool.{Bool, true, false}
-use lib.ListN.{length}
 use lib.Dec.{ltb}
 use borrow.Author.Tests.{ltb-true, ltb-false}
 use Rattle.rules.specs.declared.Action.{Action}
@@ -21,7 +20,6 @@ use Rattle.rules.proofs.Tests.{true_false}
 use Rattle.rules.proofs.Measure.{size, later, left}
 use Rattle.rules.proofs.Opcodes.{OpcodeOf, opcode_of}
 use Rattle.rules.proofs.Invariant.{Frames, main, sub, Inv, Good, Reached, step_good}
-use Rattle.rules.proofs.Accepted.{accepted_set}
 use Rattle.rules.proofs.Demand.{all_sound, all_act, reach, demand_3}
 
 -- where less is left, the rule is a later one

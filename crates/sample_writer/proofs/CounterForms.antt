@@ -1,12 +1,12 @@
 -- Counter samples written from numbers, in the grammar. Assumes nothing.
 use Prim.Native.Nat.{ℕ, ◌^◌, ◌<◌}
 use mathlib.Core.Path.{◌≡◌, sym, ap, ◌∙◌}
-use mathlib.Core.Bool.{Bool, true, false, ◌&&◌}
+use mathlib.Core.Bool.{true, false, ◌&&◌}
 use mathlib.Core.List.{List, [], ◌∷◌, ◌++◌, flat_map, append_assoc}
 use mathlib.Core.Option.{some}
 use borrow.Author.Tests.{lt-ltb}
 use Rattle.xdr.specs.Writes.{afterwards}
-use Rattle.sflow.specs.Grammar.{listed, chosen, octets_of_each, encode, each_fits, allows}
+use Rattle.sflow.specs.Grammar.{listed, octets_of_each, encode, each_fits, allows}
 use Rattle.sflow.specs.Datagram.{counters_versions, sample_type}
 use Rattle.counter_data.proofs.Bodies.{widths_of}
 use Rattle.form_writer.specs.declared.parts.WriteAnswer.{WriteAnswer}

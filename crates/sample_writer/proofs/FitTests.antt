@@ -9,7 +9,7 @@ use mathlib.Core.List.{List, [], ◌∷◌}
 use lib.ListN.{length, get_or, drop, drop_of_length-le}
 use lib.Seq.{drop-cons}
 use lib.Dec.{T, eqb, ltb}
-use borrow.Author.Tests.{eqb-true, ltb-true, lt-ltb}
+use borrow.Author.Tests.{eqb-true, lt-ltb}
 use Rattle.sflow.specs.Grammar.{Fits, Each, each_fits}
 use Rattle.sflow.proofs.Allows.{fits_exactly}
 use Rattle.counter_data.specs.CounterBodies.{words_and_hypers}

@@ -1,37 +1,16 @@
 -- A form allows a value, as a test, exactly where the value is one of its values. Assumes nothing.
-use Prim.Native.Nat.{ℕ, zero, suc, ◌^◌, ◌≤◌, ◌<◌}
+use Prim.Native.Nat.{ℕ, zero, suc, ◌^◌, ◌<◌}
 use native.Mathlib.Omega.{arith}
 use mathlib.Core.Path.{◌≡◌, refl, sym, subst}
 use mathlib.Core.Logic.{◌↔◌}
 use mathlib.Core.Bool.{Bool, true, false, true≢false, ◌&&◌}
 use mathlib.Core.List.{List, [], ◌∷◌}
-use lib.ListN.{length, get_or}
-use lib.Dec.{T, ltb, leb}
+use lib.ListN.{length}
+use lib.Dec.{T, ltb}
 use borrow.Author.Tests.{ltb-true, lt-ltb, leb-true, le-leb}
 use Rattle.xdr.specs.Numbers.{Octets}
 use Rattle.xdr.proofs.Tests.{is_true, and_parts}
-use Rattle.sflow.specs.Grammar.{
-  Limit,
-  unlimited,
-  at_most,
-  Form,
-  fixed,
-  discriminated,
-  opaque,
-  list,
-  ◌then◌,
-  Value,
-  Fits,
-  Within,
-  Each,
-  Valid,
-  each_fits,
-  within,
-  every,
-  countable,
-  octet,
-  allows,
-}
+use Rattle.sflow.specs.Grammar.{Limit, unlimited, at_most, Form, fixed, discriminated, opaque, list, ◌then◌, Value, Fits, Within, Each, Valid, each_fits, within, every, octet, allows}
 
 -- ---- tests that hold together
 

@@ -1,18 +1,18 @@
 -- Octets are exactly a value, or exactly so many entries, where they are the octets of one that the form allows. Assumes nothing.
 use Prim.Native.Nat.{ℕ}
 use native.Mathlib.Omega.{arith}
-use mathlib.Core.Path.{◌≡◌, refl, sym, ap, ◌∙◌}
+use mathlib.Core.Path.{◌≡◌, refl, ap, ◌∙◌}
 use mathlib.Core.Logic.{◌↔◌}
 use mathlib.Core.Bool.{Bool, true, false, cond}
 use mathlib.Core.List.{List, flat_map, append-nil}
 use mathlib.Core.Option.{Option, none, some, some-injective, none-ne-some}
-use lib.ListN.{length, drop}
+use lib.ListN.{length}
 use lib.Seq.{drop-length}
 use lib.Dec.{eqb}
 use borrow.Author.Tests.{eqb-true, eq-eqb}
 use Rattle.xdr.specs.Numbers.{Octets}
 use Rattle.sflow.specs.Slices.{Slice}
-use Rattle.sflow.specs.Grammar.{Form, Value, Each, Valid, encode, allows, allows_given}
+use Rattle.sflow.specs.Grammar.{Form, Value, Each, Valid, encode, allows_given}
 use Rattle.sflow.specs.Decode.{Decoded, found, refused, entries, decode, ending_at, value_in, entries_in}
 use Rattle.sflow.proofs.Sound.{sound, entries_sound}
 use Rattle.sflow.proofs.Complete.{complete, entries_read}

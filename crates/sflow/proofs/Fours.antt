@@ -1,5 +1,5 @@
 -- Packet data and path segments are multiples of four octets long, for every item of theirs is. Assumes nothing.
-use Prim.Native.Nat.{ℕ, ◌+◌, ◌%◌}
+use Prim.Native.Nat.{ℕ, ◌%◌}
 use native.Mathlib.Omega.{arith}
 use Prim.{tt}
 use mathlib.Core.Path.{◌≡◌, refl}
@@ -8,7 +8,6 @@ use mathlib.Core.List.{List, [], ◌∷◌, ◌++◌, flat_map}
 use lib.ListN.{length, length-append}
 use lib.Dec.{eqb}
 use Rattle.xdr.specs.Numbers.{octets_of}
-use Rattle.xdr.specs.Items.{padded}
 use Rattle.xdr.specs.Writes.{padded_octets}
 use Rattle.xdr.proofs.Octets.{octets_length}
 use Rattle.xdr.proofs.Writing.{padded_length}

@@ -1,7 +1,5 @@
 -- The three demands hold: each by a law that is cited. Assumes nothing.
-use Prim.Native.Nat.{ℕ}
-use mathlib.Core.Path.{◌≡◌, sym}
-use mathlib.Core.List.{List}
+use mathlib.Core.Path.{sym}
 use Rattle.sflow.proofs.Theorems as Grammar
 use Rattle.reader.proofs.Walks as Reading
 use Rattle.sflow.proofs.Exact as Exact
@@ -20,8 +18,6 @@ use Rattle.ledger.proofs.Theorems as LedgerRuns
 use Rattle.ledger.proofs.Answers as LedgerAnswers
 use Rattle.ledger.proofs.Updates as LedgerRows
 use Rattle.packet.specs.Attributes.{attributes_of, attribute}
-use Rattle.rules.specs.declared.CheckAnswer.TheVariants.{Accepted}
-use Rattle.rules.specs.Checks.{check}
 use Rattle.rules.specs.Records.{rule_count, rule_of}
 use Rattle.rules.proofs.Demand.{demand_3 as machine-demand}
 use Rattle.rules.proofs.WithoutGosub.{each_once}

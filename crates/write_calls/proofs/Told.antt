@@ -1,14 +1,13 @@
 -- The writers answer document 01's numbers in the order of its tests; a refusal changes nothing. Assumes nothing.
-use Prim.Native.Nat.{ℕ, ◌+◌, ◌≤◌}
-use native.Mathlib.Omega.{arith}
-use mathlib.Core.Path.{◌≡◌, refl, sym, ap, ◌∙◌}
+use Prim.Native.Nat.{ℕ, ◌+◌}
+use mathlib.Core.Path.{◌≡◌, refl, ◌∙◌}
 use mathlib.Core.Bool.{Bool, true, false, cond, ◌&&◌}
 use mathlib.Core.List.{List, [], ◌∷◌}
 use mathlib.Core.Option.{Option}
 use lib.ListN.{length, take}
 use lib.Dec.{leb}
 use Rattle.xdr.specs.Numbers.{octets_of}
-use Rattle.xdr.specs.Writes.{stored, Afterwards, afterwards}
+use Rattle.xdr.specs.Writes.{stored, afterwards}
 use Rattle.sflow.specs.Grammar.{Form, Value, encode, allows, allows_given, encode_given}
 use Rattle.sflow.specs.Decode.{Decoded, found, refused}
 use Rattle.sflow.specs.Datagram.{sample_type, sample_datagram, samples}
@@ -17,11 +16,11 @@ use Rattle.sflow.proofs.Allows.{allows_exactly}
 use Rattle.fields.specs.declared.address.Address.{Address}
 use Rattle.form_writer.specs.declared.parts.WriteAnswer.{WriteAnswer}
 use Rattle.form_writer.specs.declared.parts.WriteAnswer.TheVariants.{Done, BadLimit, BadDatagram, BadValue, NoRoom}
-use Rattle.form_writer.specs.Parts.{write_number, write_alone, write_given}
+use Rattle.form_writer.specs.Parts.{write_alone, write_given}
 use Rattle.writer.specs.declared.Checked.TheVariants.{NotReady}
-use Rattle.writer.specs.Datagrams.{limit_allowed, start_value, started, count_at, ready_so_far, checked_at, raised, appended_when, appended_octets, appended}
-use Rattle.writer.proofs.Theorems.{holds, start_holds}
-use Rattle.numbers.specs.Reports.{Report, report}
+use Rattle.writer.specs.Datagrams.{limit_allowed, start_value, started, count_at, ready_so_far, checked_at, appended_when, appended_octets, appended}
+use Rattle.writer.proofs.Theorems.{start_holds}
+use Rattle.numbers.specs.Reports.{report}
 use Rattle.write_reports.specs.WriteReports.{write_report}
 use Rattle.write_calls.specs.WriterAnswers.{refused_unless, form_report, start_report, is_accepted, append_report, WriteTold}
 

@@ -24,7 +24,7 @@ use Rattle.form_writer.specs.declared.parts.WriteAnswer.{WriteAnswer}
 use Rattle.form_writer.specs.declared.parts.WriteAnswer.TheVariants.{Done, BadLimit, BadDatagram, BadValue, NoRoom}
 use Rattle.form_writer.specs.Parts.{write_alone, write_value}
 use Rattle.writer.specs.declared.Checked.TheVariants.{Ready, NotReady}
-use Rattle.writer.specs.Datagrams.{limit_allowed, count_at, ready_so_far, checked_at, raised, appended_when, appended_octets, counted, Fitting}
+use Rattle.writer.specs.Datagrams.{limit_allowed, count_at, ready_so_far, checked_at, appended_when, appended_octets, counted, Fitting}
 use Rattle.writer.proofs.Limits.{limit_allowed_is}
 
 -- ---- the count word lies within the datagram so far

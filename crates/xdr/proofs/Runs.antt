@@ -9,7 +9,6 @@ use lib.ListN.{length, get_or, drop, drop_of_length-le}
 use lib.Seq.{drop-cons}
 use borrow.Author.Tests.{le-leb, lt-leb}
 use Rattle.xdr.specs.Items.{items_at, total_width}
-use Rattle.xdr.specs.declared.RunRead.{RunRead}
 use Rattle.xdr.specs.declared.RunRead.TheVariants.{Run, CutRun}
 use Rattle.xdr.proofs.Reading.{never, tested_yes}
 

@@ -11,10 +11,10 @@ put-requires c = tt
 
 pub loop-i-preserved : goal.loop-i-preserved
 loop-i-preserved c = (
-      search rules,
-      c.out-1.given ∙ c.loop-i.invariant.1,
-      zeros_step _ _ _ c.loop-i-test.true c.put.ensures ∙ c.loop-i.invariant.2,
-    )
+  search rules,
+  c.out-1.given ∙ c.loop-i.invariant.1,
+  zeros_step _ _ _ c.loop-i-test.true c.put.ensures ∙ c.loop-i.invariant.2,
+)
 
 pub shape_of-out : goal.shape_of-out
 shape_of-out c = c.loop-i.invariant.1

@@ -1,6 +1,5 @@
 use native.Mathlib.Omega.{arith}
 use Rattle.engine.specs.EngineStates.{acted_of}
-use borrow.Author.Rules.{rules}
 use Rattle.engine.proofs.acts.Goals as goal
 
 pub finishes-requires : goal.finishes-requires

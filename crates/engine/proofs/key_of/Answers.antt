@@ -26,15 +26,14 @@ pub loop-left-smaller : goal.loop-left-smaller
 loop-left-smaller c = omega arith
 
 pub loop-left-preserved : goal.loop-left-preserved
-loop-left-preserved c =
-    (
-      omega arith,
-      c.put_item-k.ensures
-          ∙ ap (λ (k : FlowKey). put k c.item_of-x.result) c.loop-left.invariant.1
-          ∙ ap (put (key_of (map (item_of (rule_of c.args.s.now) (attribute c.args.a)) (stack_of c.args.m.queue c.loop-left.j))))
-          (c.item_of-x.ensures ∙ ap (item_of (rule_of c.args.s.now) (attribute c.args.a)) c.wide-i.ensures.0)
-          ∙ sym (key_more (item_of (rule_of c.args.s.now) (attribute c.args.a)) c.args.m.queue c.loop-left.j),
-    )
+loop-left-preserved c = (
+  omega arith,
+  c.put_item-k.ensures
+      ∙ ap (λ (k : FlowKey). put k c.item_of-x.result) c.loop-left.invariant.1
+      ∙ ap (put (key_of (map (item_of (rule_of c.args.s.now) (attribute c.args.a)) (stack_of c.args.m.queue c.loop-left.j))))
+      (c.item_of-x.ensures ∙ ap (item_of (rule_of c.args.s.now) (attribute c.args.a)) c.wide-i.ensures.0)
+      ∙ sym (key_more (item_of (rule_of c.args.s.now) (attribute c.args.a)) c.args.m.queue c.loop-left.j),
+)
 
 pub returns : goal.returns
 returns c = let e : c.loop-left.j ≡ c.args.m.held = omega arith in rw e at c.loop-left.invariant.1

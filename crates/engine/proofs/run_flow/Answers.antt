@@ -3,7 +3,6 @@ use Rattle.engine.proofs.Follows.{final_held}
 use Rattle.engine.specs.declared.EngineAnswer.TheVariants.{Ended}
 use Rattle.packet.specs.Attributes.{attribute}
 use mathlib.Core.Path.{refl, ap}
-use borrow.Author.Rules.{rules}
 use Rattle.engine.proofs.run_flow.Goals as goal
 
 pub key_of-key-requires : goal.key_of-key-requires

@@ -6,7 +6,6 @@ use Rattle.rules.specs.Machine.{after}
 use Rattle.rules.specs.Demand.{bound}
 use Rattle.packet.specs.Attributes.{attribute}
 use Rattle.engine.specs.EngineStates.{outcome_of}
-use borrow.Author.Rules.{rules}
 use Rattle.engine.proofs.run_machine.Given as goal
 
 abbrev pub invariant-loop-m : goal.invariant-loop-m

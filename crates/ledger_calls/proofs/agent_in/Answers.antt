@@ -3,9 +3,9 @@ use Rattle.ledger_calls.proofs.agent_in.Goals as goal
 
 pub returns : goal.returns
 returns c = rw (
-      c.word.ensures,
-      c.word-2.ensures,
-      c.word-3.ensures,
-      c.word-4.ensures,
-      c.word-5.ensures,
-    ) refl
+  c.word.ensures,
+  c.word-2.ensures,
+  c.word-3.ensures,
+  c.word-4.ensures,
+  c.word-5.ensures,
+) refl

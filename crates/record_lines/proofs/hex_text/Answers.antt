@@ -5,10 +5,9 @@ use Rattle.record_lines.proofs.hex_text.Goals as goal
 
 pub returns : goal.returns
 unfolding hex_text
-returns c =
-    (
-      then
-          (then (then c.hex_word-p1.ensures.0 c.hex_word-p2.ensures.0 (search rules)) c.hex_word-p3.ensures.0
-          (search rules)) c.hex_word.ensures.0 (search rules),
-      search rules,
-    )
+returns c = (
+  then
+      (then (then c.hex_word-p1.ensures.0 c.hex_word-p2.ensures.0 (search rules)) c.hex_word-p3.ensures.0
+      (search rules)) c.hex_word.ensures.0 (search rules),
+  search rules,
+)

@@ -20,8 +20,8 @@ shape_of-out c = c.out-2-1.given ∙ c.out-1.given
 
 pub returns : goal.returns
 returns c = rw (
-      sym c.widened-front.ensures.0,
-      sym c.widened-back.ensures.0,
-    )
+  sym c.widened-front.ensures.0,
+  sym c.widened-back.ensures.0,
+)
     (behind_behind _ _ _ _ _ 2 25 (sym (ap (λ (n : ℕ). 2 + n) c.widened-front.ensures.1))
     c.fill_behind.ensures c.fill_behind-2.ensures)

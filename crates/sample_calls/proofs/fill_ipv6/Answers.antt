@@ -42,12 +42,12 @@ fill_behind-requires-2 c = tt
 
 pub shape_of-out : goal.shape_of-out
 shape_of-out c = omega (
-      arith,
-      c.out-4-1.given,
-      c.out-3-1.given,
-      c.out-2-1.given,
-      c.out-1.given,
-    )
+  arith,
+  c.out-4-1.given,
+  c.out-3-1.given,
+  c.out-2-1.given,
+  c.out-1.given,
+)
 
 pub returns : goal.returns
 returns c =

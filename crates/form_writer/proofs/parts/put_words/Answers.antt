@@ -9,14 +9,13 @@ pub loop-i-init : goal.loop-i-init
 loop-i-init c = (search rules, omega arith, refl, sym (stored_nothing _ _))
 
 pub loop-i-preserved : goal.loop-i-preserved
-loop-i-preserved c =
-    (
-      search rules,
-      omega arith,
-      wrote_length _ _ _ _ _ c.write_word.ensures ∙ c.loop-i.invariant.2,
-      words_next _ _ _ _ _ _ _ _ c.requires c.loop-i-test.true c.loop-i.invariant.1 c.loop-i.invariant.3
-          c.write_word.ensures,
-    )
+loop-i-preserved c = (
+  search rules,
+  omega arith,
+  wrote_length _ _ _ _ _ c.write_word.ensures ∙ c.loop-i.invariant.2,
+  words_next _ _ _ _ _ _ _ _ c.requires c.loop-i-test.true c.loop-i.invariant.1 c.loop-i.invariant.3
+      c.write_word.ensures,
+)
 
 pub shape_of-d : goal.shape_of-d
 shape_of-d c = c.loop-i.invariant.2

@@ -15,14 +15,13 @@ fits_width-requires c =
     c.loop-i.invariant.1).0
 
 pub loop-i-preserved : goal.loop-i-preserved
-loop-i-preserved c =
-    (
-      search rules,
-      (first_width c.args.widths.now _ c.loop-i-test.true c.loop-i.invariant.1).1,
-      fit_more c.args.widths.now c.args.numbers.now _ c.loop-i-test.true c.if-numbers-widths.false
-          (sym c.fits_width.ensures ∙ c.if-fits_width.true)
-          ∙ c.loop-i.invariant.2,
-    )
+loop-i-preserved c = (
+  search rules,
+  (first_width c.args.widths.now _ c.loop-i-test.true c.loop-i.invariant.1).1,
+  fit_more c.args.widths.now c.args.numbers.now _ c.loop-i-test.true c.if-numbers-widths.false
+      (sym c.fits_width.ensures ∙ c.if-fits_width.true)
+      ∙ c.loop-i.invariant.2,
+)
 
 pub returns-else-fits_width : goal.returns-else-fits_width
 returns-else-fits_width c =
