@@ -118,7 +118,7 @@ def wrong_word(row, name):
         row.place(*tree.files(f'crates/{name}/src/*.rt'))
         return ''
     if re.fullmatch(r'(?:sflow4|rtfm)_\w+', name):
-        return '' if name in tree.exported() else 'crate export has no such function'
+        return '' if name in tree.exported() else f'crate {tree.EXPORT_CRATE} has no such function'
     if name.startswith('make '):
         return '' if re.search(rf'^{name[5:]}:', tree.text('Makefile'), re.M) else 'the Makefile has no such target'
     if name.startswith('_'):
