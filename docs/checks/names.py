@@ -291,7 +291,7 @@ def check_definition_files(fault):
 
 def wrong_path(folder, name):
     """A path from the root or from the document's folder; a part in capitals stands for any, and what is built need not be there."""
-    if re.match(r'(?:\.\./)*target/|[A-Z]+/', name):
+    if re.match(r'(?:\.\./)*(?:target/|crates/\w+/out/)|[A-Z]+/', name):
         return ''
     pattern = re.sub(r'\b[A-Z]+\b', '*', name) if not name.endswith('.md') else name
     return '' if tree.exists(pattern) or tree.exists(os.path.join(folder, pattern)) else 'there is no such file'
