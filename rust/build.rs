@@ -27,7 +27,7 @@ fn main() {
     println!("cargo:rerun-if-changed={}", archive.display());
     if !archive.is_file() {
         eprintln!("troutgable: there is no {}", archive.display());
-        eprintln!("Make it with `rt staticlib export` in the repository's root (this writes target/staticlib/libexport.a),");
+        eprintln!("Make it with `make library` in the repository's root (this writes target/staticlib/libexport.a),");
         eprintln!("or set TROUTGABLE_LIB to the folder that holds libexport.a.");
         exit(1);
     }

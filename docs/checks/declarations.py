@@ -1,10 +1,11 @@
-"""include/sflow4.h and rust/src/calls.rs declare exactly the functions of crates/export/src/lib.rt: the same names, and of each the same parameters in the same
-order, with the same names and widths, and the same result. A slice of n is passed as a pointer n and a length n_length."""
+"""include/sflow4.h and rust/src/calls.rs declare exactly the functions that are exported (crates/export_c/src/lib.rt): the same names, and of each the same
+parameters in the same order, with the same names and widths, and the same result. A slice of n is passed as a pointer n and a length n_length. Each is that of the
+same name in crates/export, about which the theorems speak: with the same parameters, result and clauses."""
 import re
 
 import tree
 
-EXPORT, HEADER, CALLS = 'crates/export/src/lib.rt', 'include/sflow4.h', 'rust/src/calls.rs'
+EXPORT, SAME, HEADER, CALLS = tree.EXPORT, 'crates/export/src/lib.rt', 'include/sflow4.h', 'rust/src/calls.rs'
 C_TYPES = {'uint8_t': 'u8', 'uint16_t': 'u16', 'uint32_t': 'u32', 'uint64_t': 'u64', 'size_t': 'usize'}
 
 
@@ -37,9 +38,9 @@ def passed(given):
 def exported():
     """Name, parameters as passed and result of each exported function, with the offset of its declaration."""
     source = tree.uncommented(EXPORT)
-    for match in re.finditer(r'(#\[no_mangle\]\s+)?pub extern "C" fn (\w+)\(([^)]*)\)\s*->\s*(\w+)', source):
+    for match in re.finditer(r'(#\[unsafe\(no_mangle\)\]\s+)?pub extern "C" fn (\w+)\(([^)]*)\)\s*->\s*(\w+)', source):
         if not match.group(1):
-            raise Unknown(f'{match.group(2)} without #[no_mangle]')
+            raise Unknown(f'{match.group(2)} without #[unsafe(no_mangle)]')
         yield match.group(2), [part for given in split(match.group(3)) for part in passed(given)], match.group(4)
 
 
@@ -65,6 +66,25 @@ def in_calls():
     for declaration in filter(str.strip, block.split(';')):
         name, given, kind = whole(r'\s*fn (\w+)\(([^()]*)\)\s*->\s*(\w+)\s*', declaration)
         yield name, [whole(r'(\w+): (\*(?:const|mut) \w+|\w+)', part) for part in split(given)], kind
+
+
+def stated(path):
+    """What a source states of each public function: its parameters, result and clauses."""
+    source = tree.uncommented(path)
+    found = re.finditer(r'^pub (?:extern "C" )?fn (\w+)\(([^)]*)\)\s*->\s*(\w+)(?: \{\n|(.*?)\n\{\n)', source, re.M | re.S)
+    return {match.group(1): (split(match.group(2)), match.group(3), ' '.join((match.group(4) or '').split())) for match in found}
+
+
+def same_statements(fault):
+    """What is exported states of each function what crate export does, where it is another crate."""
+    if EXPORT == SAME:
+        return
+    ours, theirs = stated(EXPORT), stated(SAME)
+    for name in sorted(set(ours) | set(theirs)):
+        if name not in ours or name not in theirs:
+            fault(f'{EXPORT if name not in ours else SAME}: {name} is not there')
+        elif ours[name] != theirs[name]:
+            fault(f'{EXPORT}:{line_of(EXPORT, name)}: {name}: parameters, result or clauses differ from those of {SAME}:{line_of(SAME, name)}')
 
 
 def different(ours, theirs):
@@ -99,6 +119,7 @@ def check(fault):
     except Unknown as what:
         fault(f'{EXPORT}: this cannot be passed as C does: {what}')
         return 0
+    same_statements(fault)
     if set(functions) != tree.exported():
         fault(f'{EXPORT}: these are not declared so that C can call them: {", ".join(sorted(tree.exported() ^ set(functions)))}')
     for path, declared in ((HEADER, in_header), (CALLS, in_calls)):

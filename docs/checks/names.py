@@ -118,7 +118,7 @@ def wrong_word(row, name):
         row.place(*tree.files(f'crates/{name}/src/*.rt'))
         return ''
     if re.fullmatch(r'(?:sflow4|rtfm)_\w+', name):
-        return '' if name in tree.exported() else 'crate export has no such function'
+        return '' if name in tree.exported() else f'crate {tree.EXPORT_CRATE} has no such function'
     if name.startswith('make '):
         return '' if re.search(rf'^{name[5:]}:', tree.text('Makefile'), re.M) else 'the Makefile has no such target'
     if name.startswith('_'):
@@ -291,7 +291,7 @@ def check_definition_files(fault):
 
 def wrong_path(folder, name):
     """A path from the root or from the document's folder; a part in capitals stands for any, and what is built need not be there."""
-    if re.match(r'(?:\.\./)*target/|[A-Z]+/', name):
+    if re.match(r'(?:\.\./)*(?:target/|crates/\w+/out/)|[A-Z]+/', name):
         return ''
     pattern = re.sub(r'\b[A-Z]+\b', '*', name) if not name.endswith('.md') else name
     return '' if tree.exists(pattern) or tree.exists(os.path.join(folder, pattern)) else 'there is no such file'

@@ -10,6 +10,9 @@ CODE = ('crates/*/src/*.rt', 'crates/*/specs/*.antt', 'crates/*/proofs/**/*.antt
         'differential/src/*.rs', 'rust/src/*.rs', 'rust/tests/**/*.rs', 'rust/examples/*.rs', 'include/*.h', 'tests/*', 'examples/*', 'bench/*',
         'wrong-programs/*')
 NAME = r'[A-Za-z_]\w*(?:-\w+)*'
+# The crate whose functions C and Rust call: export_c, or export where it is not there.
+EXPORT_CRATE = 'export_c' if os.path.isdir(os.path.join(ROOT, 'crates', 'export_c')) else 'export'
+EXPORT = f'crates/{EXPORT_CRATE}/src/lib.rt'
 
 
 @functools.lru_cache(None)
@@ -39,7 +42,7 @@ def line_of(path, at):
 
 @functools.lru_cache(None)
 def crates():
-    return {line.split(':')[0] for line in text('crates.txt').splitlines() if line and not line.startswith('#')}
+    return {line.split(':')[0].split()[0] for line in text('crates.txt').splitlines() if line and not line.startswith('#')}
 
 
 @functools.lru_cache(None)
@@ -73,7 +76,7 @@ def parameters(path):
 
 @functools.lru_cache(None)
 def exported():
-    return public_functions('crates/export/src/lib.rt')
+    return public_functions(EXPORT)
 
 
 @functools.lru_cache(None)
