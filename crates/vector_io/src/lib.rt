@@ -1,9 +1,12 @@
 // What the programs that run vectors share: records read from standard input, texts and numbers written to standard output.
 // Of what a system call reads or writes a contract can say nothing.
+#![tactic(auto)]
+
 ghost use Rattle.std.specs.Prelude.{◌≡◌, ◌-◌, length, take, drop, replicate};
 ghost use Rattle.vector_io.specs.Records.{ReadInto};
 
-use libc::{STDIN_FILENO, STDOUT_FILENO};
+use std::io;
+use std::io::{Read, Write};
 use xdr::WordRead;
 
 // Room for a record: no datagram, sample or rule set of the vectors is longer.
@@ -20,12 +23,12 @@ pub enum RecordRead {
     NoRecord,
 }
 
-// Reads the next record of standard input, which stands behind its length in four octets, to the front of a buffer.
-pub fn read_record(buffer: &mut [u8]) -> RecordRead
+// Reads the next record of the input, which stands behind its length in four octets, to the front of a buffer. A read that fails ends the input.
+pub fn read_record<R: Read>(input: &mut R, buffer: &mut [u8]) -> RecordRead
     ensures { ReadInto buffer.old result buffer.new }
 {
     let mut prefix = [0u8; 4];
-    if io::read_full(STDIN_FILENO, &mut prefix) < 4 {
+    if input.read_exact(&mut prefix).is_err() {
         return RecordRead::NoRecord;
     }
     let WordRead::Word(length, _) = xdr::read_word(&prefix, 0) else {
@@ -35,7 +38,7 @@ pub fn read_record(buffer: &mut [u8]) -> RecordRead
     if buffer.len() < n {
         return RecordRead::NoRecord;
     }
-    if io::read_full(STDIN_FILENO, &mut buffer[..n]) < n {
+    if input.read_exact(&mut buffer[..n]).is_err() {
         return RecordRead::NoRecord;
     }
     RecordRead::Record(n)
@@ -58,42 +61,46 @@ pub fn part(s: &[u8], at: usize, end: usize) -> &[u8]
 }
 
 // Writes a text and behind it so many numbers of a list, from a place on and as far as they are there, a space before each.
-pub fn show_part(text: &[u8], numbers: &[u64], at: usize, count: usize)
+pub fn show_part<W: Write>(
+    out: &mut W,
+    text: &[u8],
+    numbers: &[u64],
+    at: usize,
+    count: usize,
+) -> io::Result<()>
     ensures* { ⊤ₛ }
 {
-    io::write_all(STDOUT_FILENO, text);
+    out.write_all(text)?;
     let mut i = at;
-    let mut left = count;
-    while 0 < left {
+    for _ in 0..count {
         if numbers.len() <= i {
-            return;
+            return Ok(());
         }
-        io::write_all(STDOUT_FILENO, b" ");
-        io::print_decimal(STDOUT_FILENO, numbers[i]);
+        write!(out, " {}", numbers[i])?;
         i += 1;
-        left -= 1;
     }
+    Ok(())
 }
 
 // Writes a text and behind it numbers, a space before each.
-pub fn show(text: &[u8], numbers: &[u64])
+pub fn show<W: Write>(out: &mut W, text: &[u8], numbers: &[u64]) -> io::Result<()>
     ensures { Unit {0} }
 {
-    show_part(text, numbers, 0, numbers.len());
+    show_part(out, text, numbers, 0, numbers.len())
 }
 
 // The same as a line.
-pub fn line(text: &[u8], numbers: &[u64])
+pub fn line<W: Write>(out: &mut W, text: &[u8], numbers: &[u64]) -> io::Result<()>
     ensures { Unit {0} }
 {
-    show(text, numbers);
-    io::write_all(STDOUT_FILENO, b"\n");
+    show(out, text, numbers)?;
+    out.write_all(b"\n")
 }
 
 // The line of a refusal: its number, and the place or the rule that it names.
-pub fn refused(number: u32, at: usize)
+pub fn refused<W: Write>(out: &mut W, number: u32, at: usize) -> io::Result<()>
     ensures { Unit {0} }
 {
-    show(b"refused", &[number as u64]);
-    line(b" at", &[at as u64]);
+    show(out, b"refused", &[number as u64])?;
+    line(out, b" at", &[at as u64])
 }
