@@ -7,6 +7,7 @@ ghost use Rattle.xdr.specs.Writes.{stored};
 ghost use Rattle.lister.specs.Held.{room_for_any, is_full, is_bad, Listed};
 
 use listing::{State, Stop};
+use std::env::FillError;
 use std::io;
 use std::io::{ErrorKind, IsTerminal, Read, Write};
 use std::rt::Env;
@@ -90,12 +91,7 @@ fn write_some<W: Write>(writer: &mut W, part: &[u8]) -> io::Result<usize>
 }
 
 // Writes the first n octets of the output and answers whether all were taken.
-fn flush<E: Eprint + AllocGlobal, W: Write>(
-    rt: &E,
-    writer: &mut W,
-    output: &[u8],
-    n: usize,
-) -> bool
+fn flush<E: Eprint + AllocGlobal, W: Write>(rt: &E, writer: &mut W, output: &[u8], n: usize) -> bool
     requires { n ≤ length output.now }
 {
     let mut done = 0;

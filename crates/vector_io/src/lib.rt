@@ -1,9 +1,11 @@
 // What the programs that run vectors share: records read from standard input, texts and numbers written to standard output.
-// Of what a system call reads or writes a contract can say nothing.
+// What a writer then holds is said where its octets are known; of what a system call reads or writes a contract can say nothing.
 #![tactic(auto)]
 
-ghost use Rattle.std.specs.Prelude.{◌≡◌, ◌-◌, length, take, drop, replicate};
-ghost use Rattle.vector_io.specs.Records.{ReadInto};
+ghost use Rattle.std.specs.Prelude.{◌≡◌, ◌-◌, ◌++◌, OnOk, length, take, drop, replicate};
+ghost use Rattle.std.specs.Io.KnownBytes.{Appends};
+ghost use Rattle.vector_io.specs.Records.{ReadInto, TakenFrom};
+ghost use Rattle.vector_io.specs.Texts.{spaced, line_of, refusal_line};
 
 use std::io;
 use std::io::{Read, Write};
@@ -25,7 +27,8 @@ pub enum RecordRead {
 
 // Reads the next record of the input, which stands behind its length in four octets, to the front of a buffer. A read that fails ends the input.
 pub fn read_record<R: Read>(input: &mut R, buffer: &mut [u8]) -> RecordRead
-    ensures { ReadInto buffer.old result buffer.new }
+    ensures fits { ReadInto buffer.old result buffer.new }
+    ensures taken { TakenFrom (R.remaining input.old) result buffer.new (R.remaining input.new) }
 {
     let mut prefix = [0u8; 4];
     if input.read_exact(&mut prefix).is_err() {
@@ -60,6 +63,20 @@ pub fn part(s: &[u8], at: usize, end: usize) -> &[u8]
     &s[at..end]
 }
 
+// So many numbers of a list, from a place on and as far as they are there.
+fn some_of(numbers: &[u64], at: usize, count: usize) -> &[u64]
+    ensures { result.now ≡ take count (drop at numbers.now) }
+{
+    if numbers.len() < at {
+        return &numbers[..0];
+    }
+    let rest = &numbers[at..];
+    if rest.len() < count {
+        return rest;
+    }
+    &rest[..count]
+}
+
 // Writes a text and behind it so many numbers of a list, from a place on and as far as they are there, a space before each.
 pub fn show_part<W: Write>(
     out: &mut W,
@@ -68,30 +85,28 @@ pub fn show_part<W: Write>(
     at: usize,
     count: usize,
 ) -> io::Result<()>
-    ensures* { ⊤ₛ }
+    ensures { OnOk result (Appends (W.contents out.old) (W.contents out.new)
+        (text.now ++ spaced (take count (drop at numbers.now)))) }
 {
     out.write_all(text)?;
-    let mut i = at;
-    for _ in 0..count {
-        if numbers.len() <= i {
-            return Ok(());
-        }
-        write!(out, " {}", numbers[i])?;
-        i += 1;
+    for number in some_of(numbers, at, count) {
+        write!(out, " {number}")?;
     }
     Ok(())
 }
 
 // Writes a text and behind it numbers, a space before each.
 pub fn show<W: Write>(out: &mut W, text: &[u8], numbers: &[u64]) -> io::Result<()>
-    ensures { Unit {0} }
+    ensures { OnOk result (Appends (W.contents out.old) (W.contents out.new)
+        (text.now ++ spaced numbers.now)) }
 {
     show_part(out, text, numbers, 0, numbers.len())
 }
 
 // The same as a line.
 pub fn line<W: Write>(out: &mut W, text: &[u8], numbers: &[u64]) -> io::Result<()>
-    ensures { Unit {0} }
+    ensures { OnOk result (Appends (W.contents out.old) (W.contents out.new)
+        (line_of text.now numbers.now)) }
 {
     show(out, text, numbers)?;
     out.write_all(b"\n")
@@ -99,7 +114,8 @@ pub fn line<W: Write>(out: &mut W, text: &[u8], numbers: &[u64]) -> io::Result<(
 
 // The line of a refusal: its number, and the place or the rule that it names.
 pub fn refused<W: Write>(out: &mut W, number: u32, at: usize) -> io::Result<()>
-    ensures { Unit {0} }
+    ensures { OnOk result (Appends (W.contents out.old) (W.contents out.new)
+        (refusal_line number at)) }
 {
     show(out, b"refused", &[number as u64])?;
     line(out, b" at", &[at as u64])
