@@ -10,7 +10,11 @@ use vector_io::RecordRead;
 fn rule_set<W: Write>(out: &mut W, s: &[u8]) -> io::Result<()> {
     match check_rules::check(s) {
         CheckAnswer::Accepted => vector_io::line(out, b"accepted", &[]),
-        CheckAnswer::Refused(why, rule) => vector_io::refused(out, rules::refusal_number(why), rule),
+        CheckAnswer::Refused(why, rule) => vector_io::refused(
+            out,
+            rules::refusal_number(why),
+            rule,
+        ),
     }
 }
 
