@@ -8,12 +8,12 @@ use mathlib.Core.Logic.{⊎_elim}
 use mathlib.Core.Bool.{Bool, true, false, true≢false, not, cond}
 use mathlib.Core.List.{List, ◌++◌, append_assoc}
 use lib.ListN.{length, get_or, set, take, drop, length-take, length-drop, take-append-drop}
-use lib.Seq.{paste, paste-suc, length_paste_head, length-take-le, take_all, get_or-take, get_or-drop, get_or-append-add, drop-drop}
+use Rattle.std.proofs.lemmas.List.{take-take}
+use lib.Seq.{take-append-add, paste, paste-suc, length_paste_head, length-take-le, take_all, get_or-take, get_or-drop, get_or-append-add, drop-drop}
 use lib.Dec.{leb}
 use Rattle.xdr.specs.Numbers.{Octets}
 use Rattle.xdr.proofs.Writing.{stored_pasted}
 use Rattle.sflow.proofs.Slices.{octets_drop, octets_take}
-use Rattle.reader.specs.Datagrams.{datagram_read}
 use Rattle.xdr.specs.Writes.{afterwards, stored}
 use Rattle.xdr.specs.declared.Written.TheVariants.{WrittenTo, Full}
 use Rattle.listing.specs.declared.State.{State}
@@ -171,3 +171,17 @@ line_inside d e xs room n h k = go (leb (0 + room) (length d)) h
 -- an offset inside the first octets is none of the others
 pub front_inside : (n k : ℕ) (s : List ℕ) → n ≤ length (take k s) → n ≤ k
 front_inside n k s h = let l = length-take k s in omega arith
+
+-- ---- octets written
+
+-- octets written behind those that were: the front of a part whose end is given
+pub more_taken : (xs : List ℕ) (done n some : ℕ) → done ≤ n → n ≤ length xs → some ≤ length (take (n - done) (drop done xs))
+    → take (done + some) xs ≡ take done xs ++ take some (take (n - done) (drop done xs))
+more_taken xs done n some h k i =
+    let rest = drop done xs in
+    let seam : length (take done xs) ≡ done = length-take-le done xs (omega (arith, h, k)) in
+    let small : some ≤ n - done = let l = length-take (n - done) rest in omega (arith, i) in
+    ap (λ (l : List ℕ). take (done + some) l) (sym (take-append-drop done xs))
+    ∙ ap (λ (k : ℕ). take (k + some) (take done xs ++ rest)) (sym seam)
+    ∙ take-append-add (take done xs) rest some
+    ∙ ap (λ (l : List ℕ). take done xs ++ l) (sym (take-take some (n - done) rest small))

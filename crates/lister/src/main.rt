@@ -2,7 +2,8 @@
 // octets: it reads in large pieces, keeps at most an unfinished record, and writes in large pieces.
 #![tactic(auto)]
 
-ghost use Rattle.std.specs.Prelude.{◌-◌, ◌<◌, ◌≤◌, ◌≡◌, IfOk, length, take, drop};
+ghost use Rattle.std.specs.Prelude.{◌-◌, ◌<◌, ◌≤◌, ◌≡◌, IfOk, true, false, length, take, drop};
+ghost use Rattle.std.specs.Io.KnownBytes.{Appends, Consumes, IsAtEnd};
 ghost use Rattle.xdr.specs.Writes.{stored};
 ghost use Rattle.lister.specs.Held.{room_for_any, is_full, is_bad, Listed};
 
@@ -44,7 +45,12 @@ fn fill<E: Eprint + AllocGlobal, R: Read>(
     held: usize,
 ) -> Filled
     requires { held ≤ length input.old }
-    ensures { (held ≤ result.end) × (result.end ≤ length input.new) }
+    ensures inside { (held ≤ result.end) × (result.end ≤ length input.new) }
+    ensures front { take held input.new ≡ take held input.old }
+    ensures read { result.failed ≡ false → Consumes (R.remaining reader.old) (R.remaining reader.new)
+        (take (result.end - held) (drop held input.new)) }
+    ensures ended { result.failed ≡ false → result.end ≡ held → held < length input.old →
+        IsAtEnd (R.remaining reader.new) }
 {
     for _ in 0..u64::MAX {
         match reader.read(&mut input[held..]) {
@@ -75,6 +81,8 @@ fn fill<E: Eprint + AllocGlobal, R: Read>(
 fn write_some<W: Write>(writer: &mut W, part: &[u8]) -> io::Result<usize>
     ensures some { IfOk result (λ n. 0 < n) }
     ensures inside { IfOk result (λ n. n ≤ length part.now) }
+    ensures written { IfOk result (λ n. Appends (W.contents writer.old) (W.contents writer.new)
+        (take n part.now)) }
 {
     for _ in 0..u64::MAX {
         match writer.write(part) {
@@ -93,6 +101,8 @@ fn write_some<W: Write>(writer: &mut W, part: &[u8]) -> io::Result<usize>
 // Writes the first n octets of the output and answers whether all were taken.
 fn flush<E: Eprint + AllocGlobal, W: Write>(rt: &E, writer: &mut W, output: &[u8], n: usize) -> bool
     requires { n ≤ length output.now }
+    ensures { result ≡ true → Appends (W.contents writer.old) (W.contents writer.new)
+        (take n output.now) }
 {
     let mut done = 0;
     while done < n {
@@ -192,10 +202,8 @@ fn shift(input: &mut [u8], from: usize, end: usize)
         return;
     }
     let n = end - from;
-    let mut i = 0;
-    while i < n {
+    for i in 0..n {
         input[i] = input[from + i];
-        i += 1;
     }
 }
 
