@@ -5,7 +5,8 @@
 ghost use Rattle.std.specs.Prelude.{◌-◌, ◌<◌, ◌≤◌, ◌≡◌, IfOk, true, false, length, take, drop};
 ghost use Rattle.std.specs.Io.KnownBytes.{Appends, Consumes, IsAtEnd};
 ghost use Rattle.xdr.specs.Writes.{stored};
-ghost use Rattle.lister.specs.Held.{room_for_any, is_full, is_bad, Listed};
+ghost use Rattle.listing.specs.Texts.{end_text};
+ghost use Rattle.lister.specs.Held.{room_for_any, is_full, is_bad, Listed, Lists, longest_record, ListsAll};
 
 use listing::{State, Stop};
 use std::env::FillError;
@@ -159,7 +160,8 @@ fn list_held<E: Eprint + AllocGlobal, W: Write>(
     begin: State,
 ) -> Progress
     requires { room_for_any ≤ length output.old }
-    ensures { Listed begin s.now result }
+    ensures listed { Listed begin s.now result }
+    ensures records { Lists begin s.now result (W.contents writer.old) (W.contents writer.new) }
 {
     let mut listed = 0;
     let mut state = begin;
@@ -207,28 +209,34 @@ fn shift(input: &mut [u8], from: usize, end: usize)
     }
 }
 
-// Writes what follows the last record, in front of the octets that are left.
+// Writes what follows the last record, in front of the octets that are left, and answers whether all of it was taken.
 fn finish<E: Eprint + AllocGlobal, W: Write>(
     rt: &E,
     writer: &mut W,
     output: &mut [u8],
     state: State,
     rest: &[u8],
-) {
+) -> bool
+    ensures { result ≡ true → Appends (W.contents writer.old) (W.contents writer.new)
+        (end_text state rest.now) }
+{
     let Written::WrittenTo(n) = listing::end_text(output, 0, state, rest) else {
-        return;
+        return false;
     };
-    flush(rt, writer, output, n);
+    flush(rt, writer, output, n)
 }
 
+// Lists the input to its end or to a bad record, and answers whether every read and write was done.
 fn list_input<E: Eprint + AllocGlobal, R: Read, W: Write>(
     rt: &E,
     reader: &mut R,
     writer: &mut W,
     input: &mut [u8],
     output: &mut [u8],
-)
+) -> bool
     requires { room_for_any ≤ length output.old }
+    ensures { result ≡ true → longest_record ≤ length input.old →
+        ListsAll (R.remaining reader.old) (W.contents writer.old) (W.contents writer.new) }
 {
     let mut state = State {
         offset: 0,
@@ -240,26 +248,25 @@ fn list_input<E: Eprint + AllocGlobal, R: Read, W: Write>(
     for _ in 0..u64::MAX {
         let filled = fill(rt, reader, input, held);
         if filled.failed {
-            return;
+            return false;
         }
         let end = filled.end;
         if end == held {
-            finish(rt, writer, output, state, &input[..held]);
-            return;
+            return finish(rt, writer, output, state, &input[..held]);
         }
         let p = list_held(rt, writer, output, &input[..end], state);
         let listed = p.listed;
         state = p.state;
         if p.failed {
-            return;
+            return false;
         }
         if p.bad {
-            finish(rt, writer, output, state, &input[listed..end]);
-            return;
+            return finish(rt, writer, output, state, &input[listed..end]);
         }
         shift(input, listed, end);
         held = end - listed;
     }
+    false
 }
 
 fn say<E: Eprint>(rt: &E, text: &str) {
