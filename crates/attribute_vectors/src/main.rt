@@ -1,11 +1,16 @@
 // Reads octets from standard input, each vector behind its length in four octets, and writes the ten attributes of each that is exactly one flow
 // sample. The vectors and the expected text come from the second program in conformance/.
+#![tactic(auto)]
+
 use packet::Attributes;
 use reader::sample::{SampleRead, SampleValues};
+use std::io;
+use std::io::{Read, Write};
 use vector_io::RecordRead;
 
-fn attributes(a: Attributes) {
+fn attributes<W: Write>(out: &mut W, a: Attributes) -> io::Result<()> {
     vector_io::line(
+        out,
         b"attributes",
         &[
             packet::attribute(a, 4) as u64,
@@ -19,45 +24,44 @@ fn attributes(a: Attributes) {
             packet::attribute(a, 21) as u64,
             packet::attribute(a, 22) as u64,
         ],
-    );
+    )
 }
 
-fn no_flow_sample() {
-    vector_io::line(b"no flow sample", &[]);
+fn no_flow_sample<W: Write>(out: &mut W) -> io::Result<()> {
+    vector_io::line(out, b"no flow sample", &[])
 }
 
-fn vector(s: &[u8]) {
+fn vector<W: Write>(out: &mut W, s: &[u8]) -> io::Result<()> {
     let SampleRead::Found(x, end) = reader::sample::read_sample(s, 0) else {
-        no_flow_sample();
-        return;
+        return no_flow_sample(out);
     };
     if end != s.len() {
-        no_flow_sample();
-        return;
+        return no_flow_sample(out);
     }
     let values = x.values;
     match values {
-        SampleValues::Flow(flow) => attributes(packet::attributes_of(s, flow)),
-        SampleValues::Counters(_) => no_flow_sample(),
+        SampleValues::Flow(flow) => attributes(out, packet::attributes_of(s, flow)),
+        SampleValues::Counters(_) => no_flow_sample(out),
     }
 }
 
 // Reads one vector and answers whether there was one.
-fn turn() -> bool {
+fn turn<R: Read, W: Write>(input: &mut R, out: &mut W) -> io::Result<bool> {
     let mut room = vector_io::room();
-    let RecordRead::Record(n) = vector_io::read_record(&mut room) else {
-        return false;
+    let RecordRead::Record(n) = vector_io::read_record(input, &mut room) else {
+        return Ok(false);
     };
-    vector(vector_io::part(&room, 0, n));
-    true
+    vector(out, vector_io::part(&room, 0, n))?;
+    Ok(true)
 }
 
-fn main() {
-    let mut turns = u64::MAX;
-    while 0 < turns {
-        if !turn() {
-            return;
+fn main(rt: HostRuntime) -> io::Result<()> {
+    let mut input = rt.stdin();
+    let mut out = rt.stdout();
+    for _ in 0..u64::MAX {
+        if !turn(&mut input, &mut out)? {
+            return Ok(());
         }
-        turns -= 1;
     }
+    Ok(())
 }

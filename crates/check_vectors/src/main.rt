@@ -1,31 +1,40 @@
 // Reads rule sets from standard input, each behind its length in four octets, and writes for each that it is accepted, or the number of its refusal
 // and the rule named. The rule sets and the expected text come from the second program in conformance/.
+#![tactic(auto)]
+
 use rules::CheckAnswer;
+use std::io;
+use std::io::{Read, Write};
 use vector_io::RecordRead;
 
-fn rule_set(s: &[u8]) {
+fn rule_set<W: Write>(out: &mut W, s: &[u8]) -> io::Result<()> {
     match check_rules::check(s) {
-        CheckAnswer::Accepted => vector_io::line(b"accepted", &[]),
-        CheckAnswer::Refused(why, rule) => vector_io::refused(rules::refusal_number(why), rule),
+        CheckAnswer::Accepted => vector_io::line(out, b"accepted", &[]),
+        CheckAnswer::Refused(why, rule) => vector_io::refused(
+            out,
+            rules::refusal_number(why),
+            rule,
+        ),
     }
 }
 
 // Reads one rule set and answers whether there was one.
-fn turn() -> bool {
+fn turn<R: Read, W: Write>(input: &mut R, out: &mut W) -> io::Result<bool> {
     let mut room = vector_io::room();
-    let RecordRead::Record(n) = vector_io::read_record(&mut room) else {
-        return false;
+    let RecordRead::Record(n) = vector_io::read_record(input, &mut room) else {
+        return Ok(false);
     };
-    rule_set(vector_io::part(&room, 0, n));
-    true
+    rule_set(out, vector_io::part(&room, 0, n))?;
+    Ok(true)
 }
 
-fn main() {
-    let mut turns = u64::MAX;
-    while 0 < turns {
-        if !turn() {
-            return;
+fn main(rt: HostRuntime) -> io::Result<()> {
+    let mut input = rt.stdin();
+    let mut out = rt.stdout();
+    for _ in 0..u64::MAX {
+        if !turn(&mut input, &mut out)? {
+            return Ok(());
         }
-        turns -= 1;
     }
+    Ok(())
 }

@@ -1,7 +1,11 @@
 // Reads pairs of a rule set and a sample from standard input, each behind its length in four octets, and writes what the engine says of each pair:
 // the answer, the number of rules come to and the flow key, or the number of its refusal and the rule named. The pairs and the expected text come from
 // the second program in conformance/.
+#![tactic(auto)]
+
 use engine::{EngineAnswer, FlowKey};
+use std::io;
+use std::io::{Read, Write};
 use vector_io::RecordRead;
 
 // Whether a number is an attribute's.
@@ -13,58 +17,58 @@ fn known(attribute: usize) -> bool {
 }
 
 // The mask and the value of each attribute.
-fn key(k: FlowKey) {
+fn key<W: Write>(out: &mut W, k: FlowKey) -> io::Result<()> {
     let masks = k.masks;
     let values = k.values;
-    let mut i = 0;
-    while i < 23 {
+    for i in 0..23 {
         if known(i) {
-            vector_io::show(b"", &[masks[i] as u64, values[i] as u64]);
+            vector_io::show(out, b"", &[masks[i] as u64, values[i] as u64])?;
         }
-        i += 1;
     }
-    vector_io::line(b"", &[]);
+    vector_io::line(out, b"", &[])
 }
 
-fn pair(s: &[u8], x: &[u8]) {
+fn pair<W: Write>(out: &mut W, s: &[u8], x: &[u8]) -> io::Result<()> {
     let r = engine::run(s, x);
     let answer = r.answer;
     let number = engine::answer_number(answer);
     match answer {
-        EngineAnswer::NotOneFlowSample => vector_io::refused(number, 0),
-        EngineAnswer::Refused(_, rule) => vector_io::refused(number, rule),
+        EngineAnswer::NotOneFlowSample => vector_io::refused(out, number, 0),
+        EngineAnswer::Refused(_, rule) => vector_io::refused(out, number, rule),
         EngineAnswer::Ended(_) => {
-            vector_io::show(b"answer", &[number as u64]);
-            vector_io::show(b" rules", &[r.rules]);
-            vector_io::show(b" key", &[]);
-            key(r.key);
+            vector_io::show(out, b"answer", &[number as u64])?;
+            vector_io::show(out, b" rules", &[r.rules])?;
+            vector_io::show(out, b" key", &[])?;
+            key(out, r.key)
         }
     }
 }
 
 // Reads one pair and answers whether there was one.
-fn turn() -> bool {
+fn turn<R: Read, W: Write>(input: &mut R, out: &mut W) -> io::Result<bool> {
     let mut rules = vector_io::room();
     let mut sample = vector_io::room();
-    let RecordRead::Record(n) = vector_io::read_record(&mut rules) else {
-        return false;
+    let RecordRead::Record(n) = vector_io::read_record(input, &mut rules) else {
+        return Ok(false);
     };
-    let RecordRead::Record(m) = vector_io::read_record(&mut sample) else {
-        return false;
+    let RecordRead::Record(m) = vector_io::read_record(input, &mut sample) else {
+        return Ok(false);
     };
     pair(
+        out,
         vector_io::part(&rules, 0, n),
         vector_io::part(&sample, 0, m),
-    );
-    true
+    )?;
+    Ok(true)
 }
 
-fn main() {
-    let mut turns = u64::MAX;
-    while 0 < turns {
-        if !turn() {
-            return;
+fn main(rt: HostRuntime) -> io::Result<()> {
+    let mut input = rt.stdin();
+    let mut out = rt.stdout();
+    for _ in 0..u64::MAX {
+        if !turn(&mut input, &mut out)? {
+            return Ok(());
         }
-        turns -= 1;
     }
+    Ok(())
 }

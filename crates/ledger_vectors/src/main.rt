@@ -1,12 +1,15 @@
 // Reads operations on a ledger from standard input, each a record of 16 words, and writes what the ledger answers: the number of each answer, and
 // every value of the 64 rows where the table is asked for. The operations and the expected text come from the second program in conformance/.
+#![tactic(auto)]
+
 ghost use Rattle.std.specs.Prelude.{◌≡◌};
 ghost use Rattle.ledger.specs.Ledger.{updated};
 
 use fields::address::{Address, Quad};
 use ledger::{EntryAnswer, FlowEntry, Row, RowEntered};
-use libc::STDIN_FILENO;
 use reader::sample::FlowWords;
+use std::io;
+use std::io::{Read, Write};
 use xdr::{HyperRead, WordRead};
 
 fn flag(b: bool) -> u64 {
@@ -16,8 +19,9 @@ fn flag(b: bool) -> u64 {
     0
 }
 
-fn show_row(i: usize, row: Row) {
+fn show_row<W: Write>(out: &mut W, i: usize, row: Row) -> io::Result<()> {
     vector_io::line(
+        out,
         b"row",
         &[
             i as u64,
@@ -33,20 +37,19 @@ fn show_row(i: usize, row: Row) {
             row.lost_total,
             row.pool_total,
         ],
-    );
+    )
 }
 
-fn show_table(rows: [Row; 64]) {
-    let mut i = 0;
-    while i < 64 {
+fn show_table<W: Write>(out: &mut W, rows: [Row; 64]) -> io::Result<()> {
+    for i in 0..64 {
         let row = rows[i];
-        show_row(i, row);
-        i += 1;
+        show_row(out, i, row)?;
     }
+    Ok(())
 }
 
-fn show_answer(answer: EntryAnswer) {
-    vector_io::line(b"answer", &[ledger::answer_number(answer) as u64]);
+fn show_answer<W: Write>(out: &mut W, answer: EntryAnswer) -> io::Result<()> {
+    vector_io::line(out, b"answer", &[ledger::answer_number(answer) as u64])
 }
 
 // The word at a place of a record, which has all of its words.
@@ -137,54 +140,54 @@ fn set_row(rows: [Row; 64], s: &[u8]) -> [Row; 64] {
 }
 
 // The table with a flow sample entered.
-fn enter(rows: [Row; 64], s: &[u8]) -> [Row; 64] {
+fn enter<W: Write>(out: &mut W, rows: [Row; 64], s: &[u8]) -> io::Result<[Row; 64]> {
     let e = ledger::enter(rows, sample_of(s));
     let answer = e.answer;
-    show_answer(answer);
-    e.rows
+    show_answer(out, answer)?;
+    Ok(e.rows)
 }
 
 // The table with a flow sample entered in one row, which alone is lent.
-fn lend_row(rows: [Row; 64], s: &[u8]) -> [Row; 64] {
+fn lend_row<W: Write>(out: &mut W, rows: [Row; 64], s: &[u8]) -> io::Result<[Row; 64]> {
     let i = word_at(s, 4) as usize;
     if 64 <= i {
-        return rows;
+        return Ok(rows);
     }
     let row = rows[i];
     let e = lend(row, sample_of(s));
     let answer = e.answer;
-    show_answer(answer);
+    show_answer(out, answer)?;
     let changed = e.row;
     let mut after = rows;
     after[i] = changed;
-    after
+    Ok(after)
 }
 
 // The table behind an operation.
-fn operate(rows: [Row; 64], s: &[u8]) -> [Row; 64] {
+fn operate<W: Write>(out: &mut W, rows: [Row; 64], s: &[u8]) -> io::Result<[Row; 64]> {
     match word_at(s, 0) {
-        0 => empty_table(),
-        1 => set_row(rows, s),
-        2 => enter(rows, s),
-        3 => lend_row(rows, s),
+        0 => Ok(empty_table()),
+        1 => Ok(set_row(rows, s)),
+        2 => enter(out, rows, s),
+        3 => lend_row(out, rows, s),
         4 => {
-            show_table(rows);
-            rows
+            show_table(out, rows)?;
+            Ok(rows)
         }
-        _ => rows,
+        _ => Ok(rows),
     }
 }
 
-fn main() {
-    let mut input = [0u8; 64];
+fn main(rt: HostRuntime) -> io::Result<()> {
+    let mut input = rt.stdin();
+    let mut out = rt.stdout();
+    let mut record = [0u8; 64];
     let mut rows = empty_table();
-    let mut turns = u64::MAX;
-    while 0 < turns {
-        if io::read_full(STDIN_FILENO, &mut input) < 64 {
-            return;
+    for _ in 0..u64::MAX {
+        if input.read_exact(&mut record).is_err() {
+            return Ok(());
         }
-        let after = operate(rows, &input);
-        rows = after;
-        turns -= 1;
+        rows = operate(&mut out, rows, &record)?;
     }
+    Ok(())
 }

@@ -8,12 +8,12 @@ use mathlib.Core.Logic.{⊎_elim}
 use mathlib.Core.Bool.{Bool, true, false, true≢false, not, cond}
 use mathlib.Core.List.{List, ◌++◌, append_assoc}
 use lib.ListN.{length, get_or, set, take, drop, length-take, length-drop, take-append-drop}
-use lib.Seq.{paste, paste-suc, length_paste_head, length-take-le, take_all, get_or-take, get_or-drop, get_or-append-add, drop-drop}
+use Rattle.std.proofs.lemmas.List.{take-take}
+use lib.Seq.{take-append_seam, take-append-add, paste, paste-suc, length_paste_head, length-take-le, take_all, get_or-take, get_or-drop, get_or-append-add, drop-drop}
 use lib.Dec.{leb}
 use Rattle.xdr.specs.Numbers.{Octets}
 use Rattle.xdr.proofs.Writing.{stored_pasted}
 use Rattle.sflow.proofs.Slices.{octets_drop, octets_take}
-use Rattle.reader.specs.Datagrams.{datagram_read}
 use Rattle.xdr.specs.Writes.{afterwards, stored}
 use Rattle.xdr.specs.declared.Written.TheVariants.{WrittenTo, Full}
 use Rattle.listing.specs.declared.State.{State}
@@ -168,6 +168,36 @@ line_inside d e xs room n h k = go (leb (0 + room) (length d)) h
         omega arith
     go false p = let z : ◌≡◌ {A = ℕ} 0 1 = cc in absurd (omega arith)
 
+-- and are the front
+pub line_front : (d e xs : List ℕ) (room n : ℕ) → afterwards (WrittenTo n) e ≡ write_line room d 0 xs → take n e ≡ xs
+unfolding write_line stored
+line_front d e xs room n h = go (leb (0 + room) (length d)) h
+  where
+    go : (b : Bool) → afterwards (WrittenTo n) e ≡ cond b (afterwards (WrittenTo (0 + length xs)) (stored d 0 xs)) (afterwards Full d) → take n e ≡ xs
+    go true p =
+        let k : n ≡ 0 + length xs = cc in
+        let i : n ≡ length xs = k ∙ zero-add (length xs) in
+        let j : e ≡ xs ++ drop (0 + length xs) d = cc in
+        rw (i, j) (take-append_seam xs (drop (0 + length xs) d))
+    go false p = let z : ◌≡◌ {A = ℕ} 0 1 = cc in absurd (omega arith)
+
 -- an offset inside the first octets is none of the others
 pub front_inside : (n k : ℕ) (s : List ℕ) → n ≤ length (take k s) → n ≤ k
 front_inside n k s h = let l = length-take k s in omega arith
+
+-- ---- octets written
+
+-- a front in two parts
+pub take_split : (xs : List ℕ) (a b : ℕ) → a ≤ length xs → take (a + b) xs ≡ take a xs ++ take b (drop a xs)
+take_split xs a b h =
+    ap (λ (l : List ℕ). take (a + b) l) (sym (take-append-drop a xs))
+    ∙ ap (λ (k : ℕ). take (k + b) (take a xs ++ drop a xs)) (sym (length-take-le a xs h))
+    ∙ take-append-add (take a xs) (drop a xs) b
+
+-- octets written behind those that were: the front of a part whose end is given
+pub more_taken : (xs : List ℕ) (done n some : ℕ) → done ≤ n → n ≤ length xs → some ≤ length (take (n - done) (drop done xs))
+    → take (done + some) xs ≡ take done xs ++ take some (take (n - done) (drop done xs))
+more_taken xs done n some h k i =
+    let l = length-take (n - done) (drop done xs) in
+    let small : some ≤ n - done = omega (arith, i) in
+    take_split xs done some (omega (arith, h, k)) ∙ ap (λ (l : List ℕ). take done xs ++ l) (sym (take-take some (n - done) (drop done xs) small))

@@ -1,11 +1,12 @@
 -- What the program does with the octets that it holds (document 01, "Listing a capture").
-use Rattle.std.specs.Prelude.{ℕ, ◌≤◌, ◌≡◌, Bool, true, false, cond, List, ◌++◌, length, drop}
+use Rattle.std.specs.Prelude.{ℕ, ◌≤◌, ◌≡◌, Bool, true, false, cond, List, [], ◌∷◌, ◌++◌, length, drop, Option, IfSome, ⊤}
+use Rattle.std.specs.Io.KnownBytes.{Appends}
 use Rattle.listing.specs.declared.State.{State}
 use Rattle.listing.specs.declared.Stop.{Stop}
 use Rattle.listing.specs.declared.Stop.TheVariants.{GoesOn, NoRecord, Output, BadRecord}
 use Rattle.listing.specs.declared.Frame.TheVariants.{Short, Wrong}
 use Rattle.listing.specs.Captures.{frame_of}
-use Rattle.listing.specs.Texts.{text_from}
+use Rattle.listing.specs.Texts.{nothing_listed, text_from, capture_of, texts_of, behind_all}
 use Rattle.lister.specs.declared.Progress.{Progress}
 
 -- the room that takes the lines of any record
@@ -32,3 +33,24 @@ pub record Listed (begin : State) (s : List ℕ) (p : Progress) : Type 0 where
   pub lines : List ℕ
   pub text_is : text_from begin s ≡ lines ++ text_from p.state (drop p.listed s)
   pub left : p.failed ≡ false → frame_of (drop p.listed s) ≡ cond p.bad Wrong Short
+
+-- each datagram is short enough for the length of its record
+abbrev pub FitRecords : List (List ℕ) → Type 0
+FitRecords [] = ⊤
+FitRecords (x ∷ xs) = (length x ≤ 65507) × FitRecords xs
+
+-- what is listed of octets s behind a state: datagrams in their records, counted; and unless the output failed, their lines and nothing else are what the writer took
+pub record Lists (begin : State) (s : List ℕ) (p : Progress) (before after : Option (List ℕ)) : Type 0 where
+  pub datagrams : List (List ℕ)
+  pub fit : FitRecords datagrams
+  pub records_are : s ≡ capture_of datagrams ++ drop p.listed s
+  pub state_is : p.state ≡ behind_all begin datagrams
+  pub lines_are : p.failed ≡ false → Appends before after (texts_of begin datagrams)
+
+-- the longest record: four octets, and the longest datagram
+abbrev pub longest_record : ℕ
+longest_record = 65511
+
+-- all that an input held is listed: where its octets are known, the writer took the text of the capture that they are
+abbrev pub ListsAll : Option (List ℕ) → Option (List ℕ) → Option (List ℕ) → Type 0
+ListsAll input before after = IfSome input (λ s. Appends before after (text_from nothing_listed s))

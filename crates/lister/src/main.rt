@@ -1,12 +1,35 @@
 // Lists the capture on standard input: each record's lines, and the last line. Everything that is listed comes from crate listing; this program moves
 // octets: it reads in large pieces, keeps at most an unfinished record, and writes in large pieces.
-ghost use Rattle.std.specs.Prelude.{◌-◌, ◌≤◌, ◌≡◌, length, take, drop};
-ghost use Rattle.xdr.specs.Writes.{stored};
-ghost use Rattle.lister.specs.Held.{room_for_any, is_full, is_bad, Listed};
+#![tactic(auto)]
 
-use libc::{EINTR, STDERR_FILENO, STDIN_FILENO, STDOUT_FILENO};
+ghost use Rattle.std.specs.Prelude.{◌-◌, ◌<◌, ◌≤◌, ◌≡◌, IfOk, true, false, length, take, drop};
+ghost use Rattle.std.specs.Io.KnownBytes.{Appends, Consumes, IsAtEnd};
+ghost use Rattle.xdr.specs.Writes.{stored};
+ghost use Rattle.listing.specs.Texts.{end_text};
+ghost use Rattle.lister.specs.Held.{room_for_any, is_full, is_bad, Listed, Lists, longest_record, ListsAll};
+
 use listing::{State, Stop};
+use std::env::FillError;
+use std::io;
+use std::io::{ErrorKind, IsTerminal, Read, Write};
+use std::rt::Env;
 use xdr::Written;
+
+// Tells on standard error what failed, and why in the system's words, which stand before its number.
+fn fail<E: Eprint + AllocGlobal>(rt: &E, what: &str, error: io::Error) {
+    let Ok(text) = format!(in rt.alloc(); "{error}") else {
+        let _ = eprintln!(rt; "{what}");
+        return;
+    };
+    match text.as_str().split_once(" (os error ") {
+        Some((why, _)) => {
+            let _ = eprintln!(rt; "{what}: {why}");
+        }
+        None => {
+            let _ = eprintln!(rt; "{what}: {text}");
+        }
+    }
+}
 
 // What was read: the end of the octets now held, which stays where the input has ended or a read failed.
 #[derive(Drop)]
@@ -16,28 +39,38 @@ struct Filled {
 }
 
 // Reads once behind the held octets; a read that a signal interrupts is tried again.
-fn fill(input: &mut [u8], held: usize) -> Filled
+fn fill<E: Eprint + AllocGlobal, R: Read>(
+    rt: &E,
+    reader: &mut R,
+    input: &mut [u8],
+    held: usize,
+) -> Filled
     requires { held ≤ length input.old }
-    ensures { (held ≤ result.end) × (result.end ≤ length input.new) }
+    ensures inside { (held ≤ result.end) × (result.end ≤ length input.new) }
+    ensures front { take held input.new ≡ take held input.old }
+    ensures read { result.failed ≡ false → Consumes (R.remaining reader.old) (R.remaining reader.new)
+        (take (result.end - held) (drop held input.new)) }
+    ensures ended { result.failed ≡ false → result.end ≡ held → held < length input.old →
+        IsAtEnd (R.remaining reader.new) }
 {
-    let mut tries = u64::MAX;
-    while 0 < tries {
-        let room = &mut input[held..];
-        let got = libc::read(STDIN_FILENO, room);
-        let more = io::count(got, room);
-        if 0 <= got {
-            return Filled {
-                end: held + more,
-                failed: false,
-            };
+    for _ in 0..u64::MAX {
+        match reader.read(&mut input[held..]) {
+            Ok(more) => {
+                return Filled {
+                    end: held + more,
+                    failed: false,
+                };
+            }
+            Err(error) => {
+                if error.kind() != ErrorKind::Interrupted {
+                    fail(rt, "lister: cannot read standard input", error);
+                    return Filled {
+                        end: held,
+                        failed: true,
+                    };
+                }
+            }
         }
-        if os::errno() != EINTR {
-            return Filled {
-                end: held,
-                failed: true,
-            };
-        }
-        tries -= 1;
     }
     Filled {
         end: held,
@@ -45,37 +78,42 @@ fn fill(input: &mut [u8], held: usize) -> Filled
     }
 }
 
-// Writes once and answers how many octets were taken; none where the output is closed or the write failed. A write that a signal interrupts is tried
-// again.
-fn write_some(part: &[u8]) -> usize
-    ensures { result ≤ length part.now }
+// Writes once and answers how many octets were taken, of which there is one at least. A write that a signal interrupts is tried again.
+fn write_some<W: Write>(writer: &mut W, part: &[u8]) -> io::Result<usize>
+    ensures some { IfOk result (λ n. 0 < n) }
+    ensures inside { IfOk result (λ n. n ≤ length part.now) }
+    ensures written { IfOk result (λ n. Appends (W.contents writer.old) (W.contents writer.new)
+        (take n part.now)) }
 {
-    let mut tries = u64::MAX;
-    while 0 < tries {
-        let got = libc::write(STDOUT_FILENO, part);
-        if 0 <= got {
-            return io::count(got, part);
+    for _ in 0..u64::MAX {
+        match writer.write(part) {
+            Ok(0) => return Err(io::Error::from(ErrorKind::WriteZero)),
+            Ok(n) => return Ok(n),
+            Err(error) => {
+                if error.kind() != ErrorKind::Interrupted {
+                    return Err(error);
+                }
+            }
         }
-        if os::errno() != EINTR {
-            return 0;
-        }
-        tries -= 1;
     }
-    0
+    Err(io::Error::from(ErrorKind::Interrupted))
 }
 
 // Writes the first n octets of the output and answers whether all were taken.
-fn flush(output: &[u8], n: usize) -> bool
+fn flush<E: Eprint + AllocGlobal, W: Write>(rt: &E, writer: &mut W, output: &[u8], n: usize) -> bool
     requires { n ≤ length output.now }
+    ensures { result ≡ true → Appends (W.contents writer.old) (W.contents writer.new)
+        (take n output.now) }
 {
     let mut done = 0;
     while done < n {
-        let taken = write_some(&output[done..n]);
-        if taken == 0 {
-            os::fail(b"lister: cannot write to standard output");
-            return false;
+        match write_some(writer, &output[done..n]) {
+            Ok(taken) => done += taken,
+            Err(error) => {
+                fail(rt, "lister: cannot write to standard output", error);
+                return false;
+            }
         }
-        done += taken;
     }
     true
 }
@@ -114,9 +152,16 @@ fn is_bad(stop: Stop) -> bool
 }
 
 // Lists all whole records held and writes their lines.
-fn list_held(output: &mut [u8], s: &[u8], begin: State) -> Progress
+fn list_held<E: Eprint + AllocGlobal, W: Write>(
+    rt: &E,
+    writer: &mut W,
+    output: &mut [u8],
+    s: &[u8],
+    begin: State,
+) -> Progress
     requires { room_for_any ≤ length output.old }
-    ensures { Listed begin s.now result }
+    ensures listed { Listed begin s.now result }
+    ensures records { Lists begin s.now result (W.contents writer.old) (W.contents writer.new) }
 {
     let mut listed = 0;
     let mut state = begin;
@@ -124,7 +169,7 @@ fn list_held(output: &mut [u8], s: &[u8], begin: State) -> Progress
         let p = listing::list_records(output, &s[listed..], state);
         listed += p.at;
         state = p.state;
-        if !flush(output, p.out) {
+        if !flush(rt, writer, output, p.out) {
             return Progress {
                 listed,
                 state,
@@ -159,23 +204,39 @@ fn shift(input: &mut [u8], from: usize, end: usize)
         return;
     }
     let n = end - from;
-    let mut i = 0;
-    while i < n {
+    for i in 0..n {
         input[i] = input[from + i];
-        i += 1;
     }
 }
 
-// Writes what follows the last record, in front of the octets that are left.
-fn finish(output: &mut [u8], state: State, rest: &[u8]) {
+// Writes what follows the last record, in front of the octets that are left, and answers whether all of it was taken.
+fn finish<E: Eprint + AllocGlobal, W: Write>(
+    rt: &E,
+    writer: &mut W,
+    output: &mut [u8],
+    state: State,
+    rest: &[u8],
+) -> bool
+    ensures { result ≡ true → Appends (W.contents writer.old) (W.contents writer.new)
+        (end_text state rest.now) }
+{
     let Written::WrittenTo(n) = listing::end_text(output, 0, state, rest) else {
-        return;
+        return false;
     };
-    flush(output, n);
+    flush(rt, writer, output, n)
 }
 
-fn list_input(input: &mut [u8], output: &mut [u8])
+// Lists the input to its end or to a bad record, and answers whether every read and write was done.
+fn list_input<E: Eprint + AllocGlobal, R: Read, W: Write>(
+    rt: &E,
+    reader: &mut R,
+    writer: &mut W,
+    input: &mut [u8],
+    output: &mut [u8],
+) -> bool
     requires { room_for_any ≤ length output.old }
+    ensures { result ≡ true → longest_record ≤ length input.old →
+        ListsAll (R.remaining reader.old) (W.contents writer.old) (W.contents writer.new) }
 {
     let mut state = State {
         offset: 0,
@@ -184,52 +245,62 @@ fn list_input(input: &mut [u8], output: &mut [u8])
         samples: 0,
     };
     let mut held = 0;
-    let mut turns = u64::MAX;
-    while 0 < turns {
-        let filled = fill(input, held);
+    for _ in 0..u64::MAX {
+        let filled = fill(rt, reader, input, held);
         if filled.failed {
-            os::fail(b"lister: cannot read standard input");
-            return;
+            return false;
         }
         let end = filled.end;
         if end == held {
-            finish(output, state, &input[..held]);
-            return;
+            return finish(rt, writer, output, state, &input[..held]);
         }
-        let p = list_held(output, &input[..end], state);
+        let p = list_held(rt, writer, output, &input[..end], state);
         let listed = p.listed;
         state = p.state;
         if p.failed {
-            return;
+            return false;
         }
         if p.bad {
-            finish(output, state, &input[listed..end]);
-            return;
+            return finish(rt, writer, output, state, &input[listed..end]);
         }
         shift(input, listed, end);
         held = end - listed;
-        turns -= 1;
+    }
+    false
+}
+
+fn say<E: Eprint>(rt: &E, text: &str) {
+    let _ = rt.eprint(text);
+}
+
+// Whether the program was given an argument behind its name, of any length.
+fn has_arguments<E: Env>(rt: &E) -> bool {
+    let mut first = [0u8; 1];
+    match rt.arg(1, &mut first) {
+        Ok(_) => true,
+        Err(FillError::TooLong) => true,
+        Err(FillError::NotPresent) => false,
     }
 }
 
-fn say(text: &[u8]) {
-    io::write_all(STDERR_FILENO, text);
-}
-
-fn main() {
-    if 1 < os::arg_count() {
+fn main(rt: HostRuntime) {
+    if has_arguments(&rt) {
         say(
-            b"lister takes no arguments. It lists the capture that it reads from standard input:\n  lister < CAPTURE\n",
+            &rt,
+            "lister takes no arguments. It lists the capture that it reads from standard input:\n  lister < CAPTURE\n",
         );
         return;
     }
-    if libc::isatty(STDIN_FILENO) == 1 {
+    let mut reader = rt.stdin();
+    if reader.is_terminal() {
         say(
-            b"lister reads a capture from standard input, which is a terminal here:\n  lister < CAPTURE\n",
+            &rt,
+            "lister reads a capture from standard input, which is a terminal here:\n  lister < CAPTURE\n",
         );
         return;
     }
+    let mut writer = rt.stdout();
     let mut input = [0u8; 262144];
     let mut output = [0u8; 262144];
-    list_input(&mut input, &mut output);
+    list_input(&rt, &mut reader, &mut writer, &mut input, &mut output);
 }

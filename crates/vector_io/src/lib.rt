@@ -1,9 +1,14 @@
 // What the programs that run vectors share: records read from standard input, texts and numbers written to standard output.
-// Of what a system call reads or writes a contract can say nothing.
-ghost use Rattle.std.specs.Prelude.{◌≡◌, ◌-◌, length, take, drop, replicate};
-ghost use Rattle.vector_io.specs.Records.{ReadInto};
+// What a writer then holds is said where its octets are known; of what a system call reads or writes a contract can say nothing.
+#![tactic(auto)]
 
-use libc::{STDIN_FILENO, STDOUT_FILENO};
+ghost use Rattle.std.specs.Prelude.{◌≡◌, ◌-◌, ◌++◌, OnOk, length, take, drop, replicate};
+ghost use Rattle.std.specs.Io.KnownBytes.{Appends};
+ghost use Rattle.vector_io.specs.Records.{ReadInto, TakenFrom};
+ghost use Rattle.vector_io.specs.Texts.{spaced, line_of, refusal_line};
+
+use std::io;
+use std::io::{Read, Write};
 use xdr::WordRead;
 
 // Room for a record: no datagram, sample or rule set of the vectors is longer.
@@ -20,12 +25,13 @@ pub enum RecordRead {
     NoRecord,
 }
 
-// Reads the next record of standard input, which stands behind its length in four octets, to the front of a buffer.
-pub fn read_record(buffer: &mut [u8]) -> RecordRead
-    ensures { ReadInto buffer.old result buffer.new }
+// Reads the next record of the input, which stands behind its length in four octets, to the front of a buffer. A read that fails ends the input.
+pub fn read_record<R: Read>(input: &mut R, buffer: &mut [u8]) -> RecordRead
+    ensures fits { ReadInto buffer.old result buffer.new }
+    ensures taken { TakenFrom (R.remaining input.old) result buffer.new (R.remaining input.new) }
 {
     let mut prefix = [0u8; 4];
-    if io::read_full(STDIN_FILENO, &mut prefix) < 4 {
+    if input.read_exact(&mut prefix).is_err() {
         return RecordRead::NoRecord;
     }
     let WordRead::Word(length, _) = xdr::read_word(&prefix, 0) else {
@@ -35,7 +41,7 @@ pub fn read_record(buffer: &mut [u8]) -> RecordRead
     if buffer.len() < n {
         return RecordRead::NoRecord;
     }
-    if io::read_full(STDIN_FILENO, &mut buffer[..n]) < n {
+    if input.read_exact(&mut buffer[..n]).is_err() {
         return RecordRead::NoRecord;
     }
     RecordRead::Record(n)
@@ -57,43 +63,60 @@ pub fn part(s: &[u8], at: usize, end: usize) -> &[u8]
     &s[at..end]
 }
 
-// Writes a text and behind it so many numbers of a list, from a place on and as far as they are there, a space before each.
-pub fn show_part(text: &[u8], numbers: &[u64], at: usize, count: usize)
-    ensures* { ⊤ₛ }
+// So many numbers of a list, from a place on and as far as they are there.
+fn some_of(numbers: &[u64], at: usize, count: usize) -> &[u64]
+    ensures { result.now ≡ take count (drop at numbers.now) }
 {
-    io::write_all(STDOUT_FILENO, text);
-    let mut i = at;
-    let mut left = count;
-    while 0 < left {
-        if numbers.len() <= i {
-            return;
-        }
-        io::write_all(STDOUT_FILENO, b" ");
-        io::print_decimal(STDOUT_FILENO, numbers[i]);
-        i += 1;
-        left -= 1;
+    if numbers.len() < at {
+        return &numbers[..0];
     }
+    let rest = &numbers[at..];
+    if rest.len() < count {
+        return rest;
+    }
+    &rest[..count]
+}
+
+// Writes a text and behind it so many numbers of a list, from a place on and as far as they are there, a space before each.
+pub fn show_part<W: Write>(
+    out: &mut W,
+    text: &[u8],
+    numbers: &[u64],
+    at: usize,
+    count: usize,
+) -> io::Result<()>
+    ensures { OnOk result (Appends (W.contents out.old) (W.contents out.new)
+        (text.now ++ spaced (take count (drop at numbers.now)))) }
+{
+    out.write_all(text)?;
+    for number in some_of(numbers, at, count) {
+        write!(out, " {number}")?;
+    }
+    Ok(())
 }
 
 // Writes a text and behind it numbers, a space before each.
-pub fn show(text: &[u8], numbers: &[u64])
-    ensures { Unit {0} }
+pub fn show<W: Write>(out: &mut W, text: &[u8], numbers: &[u64]) -> io::Result<()>
+    ensures { OnOk result (Appends (W.contents out.old) (W.contents out.new)
+        (text.now ++ spaced numbers.now)) }
 {
-    show_part(text, numbers, 0, numbers.len());
+    show_part(out, text, numbers, 0, numbers.len())
 }
 
 // The same as a line.
-pub fn line(text: &[u8], numbers: &[u64])
-    ensures { Unit {0} }
+pub fn line<W: Write>(out: &mut W, text: &[u8], numbers: &[u64]) -> io::Result<()>
+    ensures { OnOk result (Appends (W.contents out.old) (W.contents out.new)
+        (line_of text.now numbers.now)) }
 {
-    show(text, numbers);
-    io::write_all(STDOUT_FILENO, b"\n");
+    show(out, text, numbers)?;
+    out.write_all(b"\n")
 }
 
 // The line of a refusal: its number, and the place or the rule that it names.
-pub fn refused(number: u32, at: usize)
-    ensures { Unit {0} }
+pub fn refused<W: Write>(out: &mut W, number: u32, at: usize) -> io::Result<()>
+    ensures { OnOk result (Appends (W.contents out.old) (W.contents out.new)
+        (refusal_line number at)) }
 {
-    show(b"refused", &[number as u64]);
-    line(b" at", &[at as u64]);
+    show(out, b"refused", &[number as u64])?;
+    line(out, b" at", &[at as u64])
 }

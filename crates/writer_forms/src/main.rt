@@ -1,11 +1,15 @@
 // Writes one value of every form of packet data and extended data, a path segment, a flow sample and a counter sample, reads each back and compares
 // its octets with those that stand here. Prints a line for each.
+#![tactic(auto)]
+
 use extended_data::{Router, Switch};
 use fields::address::{Address, Quad};
 use fields::runs::Passed;
 use form_writer::parts::WriteAnswer;
 use packet_data::{SampledIpv4, SampledIpv6};
 use reader::sample::FlowWords;
+use std::io;
+use std::io::Write;
 
 // Whether a buffer begins with the wanted octets, and so many were written and read.
 fn agrees(d: &[u8], answer: WriteAnswer, passed: Passed, want: &[u8]) -> bool {
@@ -21,28 +25,36 @@ fn agrees(d: &[u8], answer: WriteAnswer, passed: Passed, want: &[u8]) -> bool {
     check::same(vector_io::part(d, 0, length), want)
 }
 
-fn report(name: &[u8], d: &[u8], answer: WriteAnswer, passed: Passed, want: &[u8]) {
-    vector_io::show(name, &[]);
+fn report<W: Write>(
+    out: &mut W,
+    name: &[u8],
+    d: &[u8],
+    answer: WriteAnswer,
+    passed: Passed,
+    want: &[u8],
+) -> io::Result<()> {
+    vector_io::show(out, name, &[])?;
     if agrees(d, answer, passed, want) {
-        vector_io::line(b" written and read back", &[]);
+        vector_io::line(out, b" written and read back", &[])
     } else {
-        vector_io::line(b" WRONG", &[]);
+        vector_io::line(out, b" WRONG", &[])
     }
 }
 
-fn header(d: &mut [u8]) {
+fn header<W: Write>(out: &mut W, d: &mut [u8]) -> io::Result<()> {
     let answer = form_writer::packet::write_header(d, 1, 64, b"\x01\x02\x03\x04\x05");
     let passed = packet_data::pass_packet(d, 0);
     report(
+        out,
         b"header",
         d,
         answer,
         passed,
         b"\0\0\0\x01\0\0\0\x01\0\0\0\x40\0\0\0\x05\x01\x02\x03\x04\x05\0\0\0",
-    );
+    )
 }
 
-fn ipv4(d: &mut [u8]) {
+fn ipv4<W: Write>(out: &mut W, d: &mut [u8]) -> io::Result<()> {
     let x = SampledIpv4 {
         length: 1,
         protocol: 6,
@@ -56,12 +68,13 @@ fn ipv4(d: &mut [u8]) {
     let answer = form_writer::packet::write_ipv4(d, x);
     let passed = packet_data::pass_packet(d, 0);
     report(
+        out,
         b"IPv4",
         d,
         answer,
         passed,
         b"\0\0\0\x02\0\0\0\x01\0\0\0\x06\x0a\0\0\x07\x0a\0\0\x08\0\0\0\x50\0\0\x01\xbb\0\0\0\x02\0\0\0\x09",
-    );
+    )
 }
 
 fn quad() -> Quad {
@@ -73,7 +86,7 @@ fn quad() -> Quad {
     }
 }
 
-fn ipv6(d: &mut [u8]) {
+fn ipv6<W: Write>(out: &mut W, d: &mut [u8]) -> io::Result<()> {
     let x = SampledIpv6 {
         length: 1,
         protocol: 17,
@@ -87,15 +100,16 @@ fn ipv6(d: &mut [u8]) {
     let answer = form_writer::packet::write_ipv6(d, x);
     let passed = packet_data::pass_packet(d, 0);
     report(
+        out,
         b"IPv6",
         d,
         answer,
         passed,
         b"\0\0\0\x03\0\0\0\x01\0\0\0\x11\x20\x01\x0d\xb8\0\0\0\x01\0\0\0\x02\0\0\0\x03\x20\x01\x0d\xb8\0\0\0\x01\0\0\0\x02\0\0\0\x03\0\0\0\x05\0\0\0\x06\0\0\0\x07\0\0\0\x08",
-    );
+    )
 }
 
-fn switch(d: &mut [u8]) {
+fn switch<W: Write>(out: &mut W, d: &mut [u8]) -> io::Result<()> {
     let x = Switch {
         src_vlan: 1,
         src_priority: 2,
@@ -105,16 +119,23 @@ fn switch(d: &mut [u8]) {
     let answer = form_writer::extended::write_switch(d, x);
     let passed = extended_data::pass_extended(d, 0, 1);
     report(
+        out,
         b"switch",
         d,
         answer,
         passed,
         b"\0\0\0\x01\0\0\0\x01\0\0\0\x02\0\0\0\x03\0\0\0\x04",
-    );
+    )
 }
 
 // A router whose next hop is an address of a type.
-fn router(d: &mut [u8], name: &[u8], kind: u32, want: &[u8]) {
+fn router<W: Write>(
+    out: &mut W,
+    d: &mut [u8],
+    name: &[u8],
+    kind: u32,
+    want: &[u8],
+) -> io::Result<()> {
     let x = Router {
         nexthop: Address {
             kind,
@@ -125,71 +146,77 @@ fn router(d: &mut [u8], name: &[u8], kind: u32, want: &[u8]) {
     };
     let answer = form_writer::extended::write_router(d, x);
     let passed = extended_data::pass_extended(d, 0, 1);
-    report(name, d, answer, passed, want);
+    report(out, name, d, answer, passed, want)
 }
 
-fn routers(d: &mut [u8]) {
+fn routers<W: Write>(out: &mut W, d: &mut [u8]) -> io::Result<()> {
     router(
+        out,
         d,
         b"router with IPv4",
         1,
         b"\0\0\0\x02\0\0\0\x01\x20\x01\x0d\xb8\0\0\0\x18\0\0\0\x10",
-    );
+    )?;
     router(
+        out,
         d,
         b"router with IPv6",
         2,
         b"\0\0\0\x02\0\0\0\x02\x20\x01\x0d\xb8\0\0\0\x01\0\0\0\x02\0\0\0\x03\0\0\0\x18\0\0\0\x10",
-    );
+    )
 }
 
-fn user(d: &mut [u8]) {
+fn user<W: Write>(out: &mut W, d: &mut [u8]) -> io::Result<()> {
     let answer = form_writer::extended::write_user(d, b"root", b"guest");
     let passed = extended_data::pass_extended(d, 0, 1);
     report(
+        out,
         b"user",
         d,
         answer,
         passed,
         b"\0\0\0\x04\0\0\0\x04root\0\0\0\x05guest\0\0\0",
-    );
+    )
 }
 
-fn url(d: &mut [u8]) {
+fn url<W: Write>(out: &mut W, d: &mut [u8]) -> io::Result<()> {
     let answer = form_writer::extended::write_url(d, 2, b"/a");
     let passed = extended_data::pass_extended(d, 0, 1);
     report(
+        out,
         b"URL",
         d,
         answer,
         passed,
         b"\0\0\0\x05\0\0\0\x02\0\0\0\x02/a\0\0",
-    );
+    )
 }
 
-fn segment(d: &mut [u8]) {
+fn segment<W: Write>(out: &mut W, d: &mut [u8]) -> io::Result<()> {
     let answer = form_writer::extended::write_segment(d, 2, &[7, 8]);
     let passed = extended_data::pass_segments(d, 0, 1);
     report(
+        out,
         b"path segment",
         d,
         answer,
         passed,
         b"\0\0\0\x02\0\0\0\x02\0\0\0\x07\0\0\0\x08",
-    );
+    )
 }
 
-fn gateway(d: &mut [u8]) {
+fn gateway<W: Write>(out: &mut W, d: &mut [u8]) -> io::Result<()> {
     let path = b"\0\0\0\x02\0\0\0\x02\0\0\0\x07\0\0\0\x08\0\0\0\x01\0\0\0\0";
     let answer = form_writer::extended::write_gateway(d, 1, 2, 3, 2, path, &[9], 100);
     let passed = extended_data::pass_extended(d, 0, 1);
     report(
+        out,
         b"gateway",
         d,
         answer,
         passed,
         b"\0\0\0\x03\0\0\0\x01\0\0\0\x02\0\0\0\x03\0\0\0\x02\0\0\0\x02\0\0\0\x02\0\0\0\x07\0\0\0\x08\0\0\0\x01\0\0\0\0\0\0\0\x01\0\0\0\x09\0\0\0\x64",
-    );
+    )
 }
 
 // The words of the flow samples below.
@@ -205,7 +232,7 @@ fn flow_words() -> FlowWords {
     }
 }
 
-fn flow_sample(d: &mut [u8]) {
+fn flow_sample<W: Write>(out: &mut W, d: &mut [u8]) -> io::Result<()> {
     let words = flow_words();
     let header = b"\0\0\0\x01\0\0\0\x01\0\0\0\x40\0\0\0\x01\xff\0\0\0";
     let entries =
@@ -213,30 +240,32 @@ fn flow_sample(d: &mut [u8]) {
     let answer = sample_writer::sample::write_flow(d, words, header, 2, entries);
     let passed = reader::sample::pass_sample(d, 0);
     report(
+        out,
         b"flow sample",
         d,
         answer,
         passed,
         b"\0\0\0\x01\0\0\0\x01\0\0\0\x02\0\0\0\x03\0\0\0\x04\0\0\0\x05\0\0\0\x06\0\0\0\x07\0\0\0\x01\0\0\0\x01\0\0\0\x40\0\0\0\x01\xff\0\0\0\0\0\0\x02\0\0\0\x05\0\0\0\x02\0\0\0\x02/a\0\0\0\0\0\x01\0\0\0\x01\0\0\0\x02\0\0\0\x03\0\0\0\x04",
-    );
+    )
 }
 
-fn header_flow(d: &mut [u8]) {
+fn header_flow<W: Write>(out: &mut W, d: &mut [u8]) -> io::Result<()> {
     let words = flow_words();
     let entries =
         b"\0\0\0\x05\0\0\0\x02\0\0\0\x02/a\0\0\0\0\0\x01\0\0\0\x01\0\0\0\x02\0\0\0\x03\0\0\0\x04";
     let answer = sample_writer::sample::write_header_flow(d, words, 1, 64, b"\xff", 2, entries);
     let passed = reader::sample::pass_sample(d, 0);
     report(
+        out,
         b"flow sample with a header",
         d,
         answer,
         passed,
         b"\0\0\0\x01\0\0\0\x01\0\0\0\x02\0\0\0\x03\0\0\0\x04\0\0\0\x05\0\0\0\x06\0\0\0\x07\0\0\0\x01\0\0\0\x01\0\0\0\x40\0\0\0\x01\xff\0\0\0\0\0\0\x02\0\0\0\x05\0\0\0\x02\0\0\0\x02/a\0\0\0\0\0\x01\0\0\0\x01\0\0\0\x02\0\0\0\x03\0\0\0\x04",
-    );
+    )
 }
 
-fn ipv4_flow(d: &mut [u8]) {
+fn ipv4_flow<W: Write>(out: &mut W, d: &mut [u8]) -> io::Result<()> {
     let words = flow_words();
     let x = SampledIpv4 {
         length: 9,
@@ -251,15 +280,16 @@ fn ipv4_flow(d: &mut [u8]) {
     let answer = sample_writer::sample::write_ipv4_flow(d, words, x, 0, b"");
     let passed = reader::sample::pass_sample(d, 0);
     report(
+        out,
         b"flow sample with IPv4 data",
         d,
         answer,
         passed,
         b"\0\0\0\x01\0\0\0\x01\0\0\0\x02\0\0\0\x03\0\0\0\x04\0\0\0\x05\0\0\0\x06\0\0\0\x07\0\0\0\x02\0\0\0\x09\0\0\0\x0a\0\0\0\x0b\0\0\0\x0c\0\0\0\x0d\0\0\0\x0e\0\0\0\x0f\0\0\0\x10\0\0\0\x00",
-    );
+    )
 }
 
-fn ipv6_flow(d: &mut [u8]) {
+fn ipv6_flow<W: Write>(out: &mut W, d: &mut [u8]) -> io::Result<()> {
     let words = flow_words();
     let x = SampledIpv6 {
         length: 9,
@@ -284,41 +314,45 @@ fn ipv6_flow(d: &mut [u8]) {
     let answer = sample_writer::sample::write_ipv6_flow(d, words, x, 0, b"");
     let passed = reader::sample::pass_sample(d, 0);
     report(
+        out,
         b"flow sample with IPv6 data",
         d,
         answer,
         passed,
         b"\0\0\0\x01\0\0\0\x01\0\0\0\x02\0\0\0\x03\0\0\0\x04\0\0\0\x05\0\0\0\x06\0\0\0\x07\0\0\0\x03\0\0\0\x09\0\0\0\x0a\0\0\0\x0b\0\0\0\x0c\0\0\0\x0d\0\0\0\x0e\0\0\0\x0f\0\0\0\x10\0\0\0\x11\0\0\0\x12\0\0\0\x13\0\0\0\x14\0\0\0\x15\0\0\0\x16\0\0\0\x00",
-    );
+    )
 }
 
-fn counter_sample(d: &mut [u8]) {
+fn counter_sample<W: Write>(out: &mut W, d: &mut [u8]) -> io::Result<()> {
     let numbers = [1u64, 72623859790382856, 3, 4, 5, 6];
     let answer = sample_writer::counters::write_counters(d, 5, 6, 7, 7, &numbers);
     let passed = reader::sample::pass_sample(d, 0);
     report(
+        out,
         b"counter sample",
         d,
         answer,
         passed,
         b"\0\0\0\x02\0\0\0\x05\0\0\0\x06\0\0\0\x07\0\0\0\x07\0\0\0\x01\x01\x02\x03\x04\x05\x06\x07\x08\0\0\0\x03\0\0\0\x04\0\0\0\x05\0\0\0\x06",
-    );
+    )
 }
 
-fn main() {
+fn main(rt: HostRuntime) -> io::Result<()> {
+    let mut out = rt.stdout();
     let mut d = [165u8; 256];
-    header(&mut d);
-    ipv4(&mut d);
-    ipv6(&mut d);
-    switch(&mut d);
-    routers(&mut d);
-    user(&mut d);
-    url(&mut d);
-    segment(&mut d);
-    gateway(&mut d);
-    flow_sample(&mut d);
-    header_flow(&mut d);
-    ipv4_flow(&mut d);
-    ipv6_flow(&mut d);
-    counter_sample(&mut d);
+    header(&mut out, &mut d)?;
+    ipv4(&mut out, &mut d)?;
+    ipv6(&mut out, &mut d)?;
+    switch(&mut out, &mut d)?;
+    routers(&mut out, &mut d)?;
+    user(&mut out, &mut d)?;
+    url(&mut out, &mut d)?;
+    segment(&mut out, &mut d)?;
+    gateway(&mut out, &mut d)?;
+    flow_sample(&mut out, &mut d)?;
+    header_flow(&mut out, &mut d)?;
+    ipv4_flow(&mut out, &mut d)?;
+    ipv6_flow(&mut out, &mut d)?;
+    counter_sample(&mut out, &mut d)?;
+    Ok(())
 }

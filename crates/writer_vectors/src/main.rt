@@ -1,6 +1,8 @@
 // Reads datagrams from standard input, each behind its length in four octets, and writes each accepted one again, twice into a cleared buffer: its
 // head, then its samples one by one at the end, first as octets and then as values. Prints how many were accepted, how many of these came out with the
 // same octets both times, and how many did not. The datagrams come from the second program in conformance/.
+#![tactic(auto)]
+
 ghost use Rattle.std.specs.Prelude.{◌≡◌, ◌+◌, ◌≤◌, length};
 
 use fields::words::Entries;
@@ -8,6 +10,8 @@ use form_writer::parts::WriteAnswer;
 use packet_data::{PacketData, SampledHeader};
 use reader::datagram::{Head, HeadRead};
 use reader::sample::{CountersSample, FlowSample, Sample, SampleRead, SampleValues};
+use std::io;
+use std::io::{Read, Write};
 use vector_io::RecordRead;
 
 // What a turn met: the end of the input; or how many datagrams it wrote again with the same octets and with others, one at most.
@@ -158,14 +162,12 @@ fn append(
 fn append_samples(out: &mut [u8], start: usize, s: &[u8], list: Entries, by_values: bool) -> usize {
     let mut length = start;
     let mut at = list.at;
-    let mut left = list.count;
-    while 0 < left {
+    for _ in 0..list.count {
         let SampleRead::Found(x, end) = reader::sample::read_sample(s, at) else {
             return usize::MAX;
         };
         length = append(out, length, s, x, end, by_values);
         at = end;
-        left -= 1;
     }
     length
 }
@@ -217,11 +219,11 @@ fn datagram(s: &[u8]) -> Outcome
 }
 
 // Reads one datagram and writes it again.
-fn turn() -> Outcome
+fn turn<R: Read>(input: &mut R) -> Outcome
     ensures { result.equal + result.different ≤ 1 }
 {
     let mut room = vector_io::room();
-    let RecordRead::Record(n) = vector_io::read_record(&mut room) else {
+    let RecordRead::Record(n) = vector_io::read_record(input, &mut room) else {
         return Outcome {
             ended: true,
             equal: 0,
@@ -231,24 +233,24 @@ fn turn() -> Outcome
     datagram(vector_io::part(&room, 0, n))
 }
 
-fn report(accepted: u64, equal: u64, different: u64) {
-    vector_io::line(b"accepted", &[accepted]);
-    vector_io::line(b"written again with the same octets", &[equal]);
-    vector_io::line(b"written again with other octets", &[different]);
+fn report<W: Write>(out: &mut W, accepted: u64, equal: u64, different: u64) -> io::Result<()> {
+    vector_io::line(out, b"accepted", &[accepted])?;
+    vector_io::line(out, b"written again with the same octets", &[equal])?;
+    vector_io::line(out, b"written again with other octets", &[different])
 }
 
-fn main() {
+fn main(rt: HostRuntime) -> io::Result<()> {
+    let mut input = rt.stdin();
+    let mut out = rt.stdout();
     let mut equal = 0u64;
     let mut different = 0u64;
-    let mut turns = u64::MAX;
-    while 0 < turns {
-        let t = turn();
+    for _ in 0..u64::MAX {
+        let t = turn(&mut input);
         if t.ended {
-            report(equal + different, equal, different);
-            return;
+            return report(&mut out, equal + different, equal, different);
         }
         equal += t.equal;
         different += t.different;
-        turns -= 1;
     }
+    Ok(())
 }
