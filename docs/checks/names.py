@@ -109,7 +109,7 @@ def stands_in(path, name):
 
 def is_function_in(path, name):
     """Whether a function is defined or called in a source."""
-    return re.search(rf'(?<!\w){name}\s*\(', tree.uncommented(path)) is not None
+    return re.search(rf'(?<!\w){name}(?:<[^>]*>)?\s*\(', tree.uncommented(path)) is not None
 
 
 def wrong_word(row, name):
