@@ -14,7 +14,7 @@ use Rattle.listing.specs.declared.State.{State}
 use Rattle.listing.specs.declared.Place.{Place}
 use Rattle.listing.proofs.Texts.{Fit, none, one, text_parts}
 use Rattle.lister.specs.declared.Progress.{Progress}
-use Rattle.lister.specs.Held.{FitRecords, Lists, ListsAll}
+use Rattle.lister.specs.Held.{FitRecords, Listed, Lists, ListsAll}
 use Rattle.lister.proofs.Parts.{take_split}
 use Rattle.lister.proofs.Records.{Records, records_listed, front_of_stored, short_says, capture_parts, texts_parts, behind_parts, fit_parts, wrong_says, wrong_stays}
 
@@ -97,6 +97,13 @@ records_from d e s k t q inside o h =
     let part : take (length s - k) (drop k s) ≡ drop k s = let l = length-drop k s in take_all (length s - k) (drop k s) (omega arith) in
     records_listed d e (drop k s) t q (octets_drop k s o) (h ∙ ap (λ (l : List ℕ). list_all d l t) part)
 
+-- the same of where listing stands, put together
+pub listed_as : (begin : State) (s : List ℕ) (p q : Progress) → q ≡ p → Listed begin s p → Listed begin s q
+listed_as begin s p q e = subst (Listed begin s) (sym e)
+
+pub lists_as : (begin : State) (s : List ℕ) (p q : Progress) (before after : Option (List ℕ)) → q ≡ p → Lists begin s p before after → Lists begin s q before after
+lists_as begin s p q before after e = subst (λ (p : Progress). Lists begin s p before after) (sym e)
+
 -- ---- the input
 
 -- of what was read some records are listed, whose lines the writer took, and octets behind them are held
@@ -107,8 +114,8 @@ pub record Streamed (input left before after : Option (List ℕ)) (state : State
   pub read : Consumes input left (capture_of datagrams ++ held)
   pub written : Appends before after (texts_of nothing_listed datagrams)
 
-pub streamed_begins : (r w : Option (List ℕ)) → Streamed r r w w nothing_listed []
-streamed_begins r w = record { datagrams = []; fit = none; state_is = refl; read = Consumes-nil r; written = Appends-nil w }
+pub streamed_begins : (r w : Option (List ℕ)) (state : State) → state ≡ nothing_listed → Streamed r r w w state []
+streamed_begins r w state e = record { datagrams = []; fit = none; state_is = e; read = Consumes-nil r; written = Appends-nil w }
 
 module _ (input left before after : Option (List ℕ)) (state : State) (held : List ℕ) (h : Streamed input left before after state held) where
   pub streamed_read : (rest : Option (List ℕ)) (more : List ℕ) → Consumes left rest more → Streamed input rest before after state (held ++ more)

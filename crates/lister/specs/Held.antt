@@ -13,6 +13,10 @@ use Rattle.lister.specs.declared.Progress.{Progress}
 abbrev pub room_for_any : ℕ
 room_for_any = 222796
 
+-- where listing stands, put together
+abbrev pub progress_of : ℕ → State → Bool → Bool → Progress
+progress_of listed state bad failed = record { listed = listed; state = state; bad = bad; failed = failed }
+
 -- why listing stopped: the output was full; at a bad record
 abbrev pub is_full : Stop → Bool
 is_full GoesOn = false

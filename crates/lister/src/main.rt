@@ -5,8 +5,8 @@
 ghost use Rattle.std.specs.Prelude.{◌-◌, ◌<◌, ◌≤◌, ◌≡◌, IfOk, true, false, length, take, drop};
 ghost use Rattle.std.specs.Io.KnownBytes.{Appends, Consumes, IsAtEnd};
 ghost use Rattle.xdr.specs.Writes.{stored};
-ghost use Rattle.listing.specs.Texts.{end_text};
-ghost use Rattle.lister.specs.Held.{room_for_any, is_full, is_bad, Listed, Lists, longest_record, ListsAll};
+ghost use Rattle.listing.specs.Texts.{nothing_listed, end_text};
+ghost use Rattle.lister.specs.Held.{room_for_any, progress_of, is_full, is_bad, Listed, Lists, longest_record, ListsAll};
 
 use listing::{State, Stop};
 use std::env::FillError;
@@ -127,6 +127,17 @@ struct Progress {
     failed: bool,
 }
 
+fn stand_at(listed: usize, state: State, bad: bool, failed: bool) -> Progress
+    ensures { result ≡ progress_of listed state bad failed }
+{
+    Progress {
+        listed,
+        state,
+        bad,
+        failed,
+    }
+}
+
 // Whether listing stopped because the output was full.
 fn is_full(stop: Stop) -> bool
     ensures { result ≡ is_full stop }
@@ -170,29 +181,14 @@ fn list_held<E: Eprint + AllocGlobal, W: Write>(
         listed += p.at;
         state = p.state;
         if !flush(rt, writer, output, p.out) {
-            return Progress {
-                listed,
-                state,
-                bad: false,
-                failed: true,
-            };
+            return stand_at(listed, state, false, true);
         }
         let stop = p.stop;
         if !is_full(stop) {
-            return Progress {
-                listed,
-                state,
-                bad: is_bad(stop),
-                failed: false,
-            };
+            return stand_at(listed, state, is_bad(stop), false);
         }
     }
-    Progress {
-        listed,
-        state,
-        bad: false,
-        failed: false,
-    }
+    stand_at(listed, state, false, false)
 }
 
 // Moves the octets between two offsets to the front, where they do not stand there already.
@@ -226,6 +222,18 @@ fn finish<E: Eprint + AllocGlobal, W: Write>(
     flush(rt, writer, output, n)
 }
 
+// The state in front of the first record.
+fn nothing_listed() -> State
+    ensures { result ≡ nothing_listed }
+{
+    State {
+        offset: 0,
+        records: 0,
+        refused: 0,
+        samples: 0,
+    }
+}
+
 // Lists the input to its end or to a bad record, and answers whether every read and write was done.
 fn list_input<E: Eprint + AllocGlobal, R: Read, W: Write>(
     rt: &E,
@@ -238,12 +246,7 @@ fn list_input<E: Eprint + AllocGlobal, R: Read, W: Write>(
     ensures { result ≡ true → longest_record ≤ length input.old →
         ListsAll (R.remaining reader.old) (W.contents writer.old) (W.contents writer.new) }
 {
-    let mut state = State {
-        offset: 0,
-        records: 0,
-        refused: 0,
-        samples: 0,
-    };
+    let mut state = nothing_listed();
     let mut held = 0;
     for _ in 0..u64::MAX {
         let filled = fill(rt, reader, input, held);

@@ -1,7 +1,7 @@
 use Rattle.std.proofs.Common.{rules, arith, sym, ◌∙◌, ap, not, refl, []}
 use Rattle.listing.proofs.Inside.{written_inside}
 use Rattle.lister.proofs.Parts.{listed_part, more_lines, all_listed, failed_there, some_listed, end_listed}
-use Rattle.lister.proofs.Stream.{so_begins, so_lists, so_more, lists_failed, records_from}
+use Rattle.lister.proofs.Stream.{so_begins, so_lists, so_more, lists_failed, records_from, listed_as, lists_as}
 use Rattle.lister.proofs.list_held.Goals as goal
 
 pub loop-listed-init : goal.loop-listed-init
@@ -23,8 +23,9 @@ returns-then-not-flush g c =
     let m = records_from _ _ c.args.s.now c.loop-listed.listed _ _ c.loop-listed.invariant.0 (λ i. (c.type_inv.s i).fits) c.list_records-p.ensures in
     record {
       listed =
-          failed_there _ _ c.args.s.now c.loop-listed.listed _ _ c.loop-listed.invariant.0 c.list_records-p.ensures _ c.loop-listed.invariant.1;
-      records = lists_failed _ _ _ _ _ _ c.loop-listed.invariant.2 _ _ m _ _;
+          listed_as _ _ _ _ c.stand_at.ensures
+          (failed_there _ _ c.args.s.now c.loop-listed.listed _ _ c.loop-listed.invariant.0 c.list_records-p.ensures _ c.loop-listed.invariant.1);
+      records = lists_as _ _ _ _ _ _ c.stand_at.ensures (lists_failed _ _ _ _ _ _ c.loop-listed.invariant.2 _ _ m _ _);
     }
 
 pub returns-then-not-is_full : goal.returns-then-not-is_full
@@ -33,8 +34,11 @@ returns-then-not-is_full g c =
     let m = records_from _ _ c.args.s.now c.loop-listed.listed _ _ c.loop-listed.invariant.0 (λ i. (c.type_inv.s i).fits) c.list_records-p.ensures in
     record {
       listed =
-          all_listed _ _ c.args.s.now c.loop-listed.listed _ _ c.loop-listed.invariant.0 c.list_records-p.ensures _ c.loop-listed.invariant.1 f _ c.is_bad.ensures;
-      records = so_lists _ _ _ _ _ _ _ _ (so_more _ _ _ _ _ _ c.loop-listed.invariant.2 _ _ m _ (c.flush.ensures c.if-not-flush.false));
+          listed_as _ _ _ _ c.stand_at-then-not-is_full.ensures
+          (all_listed _ _ c.args.s.now c.loop-listed.listed _ _ c.loop-listed.invariant.0 c.list_records-p.ensures _ c.loop-listed.invariant.1 f _ c.is_bad.ensures);
+      records =
+          lists_as _ _ _ _ _ _ c.stand_at-then-not-is_full.ensures
+          (so_lists _ _ _ _ _ _ _ _ (so_more _ _ _ _ _ _ c.loop-listed.invariant.2 _ _ m _ (c.flush.ensures c.if-not-flush.false)));
     }
 
 pub loop-listed-smaller : goal.loop-listed-smaller
@@ -56,6 +60,8 @@ loop-listed-preserved g c =
 pub returns : goal.returns
 returns g c =
     record {
-      listed = end_listed _ c.args.s.now c.loop-listed.listed _ c.loop-listed.invariant.0 (search rules) c.loop-listed.invariant.1;
-      records = so_lists _ _ _ _ _ _ _ _ c.loop-listed.invariant.2;
+      listed =
+          listed_as _ _ _ _ c.stand_at-2.ensures
+          (end_listed _ c.args.s.now c.loop-listed.listed _ c.loop-listed.invariant.0 (search rules) c.loop-listed.invariant.1);
+      records = lists_as _ _ _ _ _ _ c.stand_at-2.ensures (so_lists _ _ _ _ _ _ _ _ c.loop-listed.invariant.2);
     }

@@ -7,7 +7,7 @@ use Rattle.lister.proofs.Stream.{Streamed, streamed_begins, streamed_listed, aft
 use Rattle.lister.proofs.list_input.Goals as goal
 
 pub loop-init : goal.loop-init
-loop-init g c = (search rules, sym (frame_short [] 0 (omega arith)), streamed_begins _ _)
+loop-init g c = (search rules, sym (frame_short [] 0 (omega arith)), streamed_begins _ _ _ c.nothing_listed-state.ensures)
 
 pub returns-then-end-held : goal.returns-then-end-held
 returns-then-end-held g c = λ done room.
