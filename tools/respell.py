@@ -106,7 +106,7 @@ def aliased(path, text):
         if re.search(rf"(?<![\w.'-]){new}(?![\w'-])", ''.join(p for c, p in code_parts(text, '--') if c)):
             print(f'{path}: the module {old} becomes {new}, which stands there already')
         text = re.sub(rf"(?m)^((?:pub )?use [\w.'+-]+ as ){old}(?![\w'-])", rf'\g<1>{new}', text)
-        text = re.sub(rf"(?<![\w.'-]){old}\.(?=[a-z])", f'{new}.', text)
+        text = re.sub(rf"(?<![\w.'-]){old}\.(?=\S)", f'{new}.', text)
     return text
 
 
