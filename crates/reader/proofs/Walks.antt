@@ -75,7 +75,7 @@ walk_ends s (suc left) at = go (decode sample_type s at) refl (walk_ends s left)
     go (found v next) e more = rw (walk_step s left at v next e) (more next ∙ rest v (entries (decode sample_type s) left next))
     go (refused why p) e more = rw (walk_stop s left at why p e)
 
--- whatever the octets: where the head is refused, so is the datagram (read-head-refused); else the walk from the head's cursor ends as reading does
+-- whatever the octets: where the head is refused, so is the datagram (read_head_refused); else the walk from the head's cursor ends as reading does
 pub walk_reads : (s : List ℕ) (h : Head) (next : ℕ) → head_at s ≡ found h next
     → (walk s h.samples.count h.samples.at).ending ≡ as_passed (read_datagram s)
 walk_reads s h next e = walk_ends s h.samples.count h.samples.at ∙ go (entries (decode sample_type s) h.samples.count h.samples.at) refl

@@ -60,7 +60,7 @@ Valid (opaque limit) xs = (length xs < 2 ^ 32) × Within limit (length xs) × Oc
 Valid (list entry) vs = (length vs < 2 ^ 32) × Each (Valid entry) vs
 Valid (f then g) v = Valid f v.0 × Valid g v.1
 
--- ---- the same as tests: a writer takes a value exactly where the form allows it (`allows-exactly`)
+-- ---- the same as tests: a writer takes a value exactly where the form allows it (`allows_exactly`)
 
 abbrev pub each_fits : List ℕ → List ℕ → Bool
 each_fits [] [] = true

@@ -1,4 +1,4 @@
--- Lengths that document 01 names ("Datagram grammar", "Writer"); those of the counters' bodies are `body-lengths` (crate sflow). Assumes nothing.
+-- Lengths that document 01 names ("Datagram grammar", "Writer"); those of the counters' bodies are `body_lengths` (crate sflow). Assumes nothing.
 use Prim.Native.Nat.{ℕ}
 use mathlib.Core.Path.{◌≡◌, refl}
 use mathlib.Core.List.{List, [], ◌∷◌, flat_map}

@@ -121,7 +121,7 @@ pub record Demand2 : Type 0 where
   -- and the walk meets exactly these, with their offsets, lengths and values
   pub walk_samples : (s : List ℕ) → Octets s → (v : Value sample_datagram) → read_datagram s ≡ found v (length s)
       → (walk s (datagram_of v).samples.count (datagram_of v).samples.at).met ≡ samples_from (datagram_of v).samples.at (samples v)
-  -- a writer takes a value exactly where one is given that the form allows (22 in every other case, `in-numbers`)
+  -- a writer takes a value exactly where one is given that the form allows (22 in every other case, `in_numbers`)
   pub taken_exactly : (g : Form) (x : Option (Value g)) → (allows_given g x ≡ true) ↔ ((v : Value g) × (x ≡ some v) × Valid g v)
   -- octets are given for a value, or for so many entries, exactly where they are its, or their, encoding
   pub value_given_exactly : (g : Form) (xs : List ℕ) → Octets xs → (v : Value g) → (value_in g xs ≡ some v) ↔ (Valid g v × (xs ≡ encode g v))
