@@ -1,7 +1,7 @@
 -- Words, hypers and sixteen octets: what a read answers, and what each answer says of the octets. Assumes nothing.
 use Prim.Native.Nat.{ℕ, ◌+◌, ◌*◌, ◌≤◌, ◌<◌}
 use native.Mathlib.Omega.{arith}
-use mathlib.Core.Path.{◌≡◌, refl, sym, ◌∙◌}
+use mathlib.Core.Path.{◌≡◌, refl, sym, ap, ◌∙◌}
 use mathlib.Core.Logic.{◌⊎◌, inl, inr, ⊎_elim}
 use mathlib.Core.Bool.{Bool, true, false, cond}
 use mathlib.Core.List.{List}
@@ -9,10 +9,10 @@ use lib.ListN.{length}
 use lib.Dec.{leb}
 use borrow.Author.Tests.{le-leb, lt-leb, leb-true, leb-false}
 use Rattle.xdr.specs.Numbers.{number_at}
-use Rattle.xdr.specs.Items.{word_at, hyper_at, quad_at}
-use Rattle.xdr.specs.declared.WordRead.TheVariants.{Word, CutWord}
-use Rattle.xdr.specs.declared.HyperRead.TheVariants.{Hyper, CutHyper}
-use Rattle.xdr.specs.declared.QuadRead.TheVariants.{Quad, CutQuad}
+use Rattle.std.specs.Prelude.{Result, Ok, Err}
+use Rattle.xdr.specs.declared.Cut.{Cut}
+use Rattle.xdr.specs.declared.Quad.{Quad}
+use Rattle.xdr.specs.Items.{cut, word_at, hyper_at, quad_in, quad_at}
 use Rattle.xdr.proofs.Octets.{number_join}
 
 -- Zero is not one. Two answers that differ, taken for one, make them equal.
@@ -35,31 +35,38 @@ pub tested_no : {A : Type 0} (n m : ℕ) (x y z : A) → (x ≡ z → ⊥) → c
 tested_no n m x y z f e = ⊎_elim (λ h. absurd (f h.1)) (λ h. h) (tested n m x y z e)
 
 -- A word, a hyper and sixteen octets are read where their octets are there.
-pub word_whole : (s : List ℕ) (at : ℕ) → at + 4 ≤ length s → word_at s at ≡ Word (number_at s at 4) (at + 4)
+pub word_whole : (s : List ℕ) (at : ℕ) → at + 4 ≤ length s → word_at s at ≡ Ok (number_at s at 4, at + 4)
 unfolding word_at
 word_whole s at h = rw (le-leb _ _ h)
 
-pub hyper_whole : (s : List ℕ) (at : ℕ) → at + 8 ≤ length s → hyper_at s at ≡ Hyper (number_at s at 8) (at + 8)
+pub hyper_whole : (s : List ℕ) (at : ℕ) → at + 8 ≤ length s → hyper_at s at ≡ Ok (number_at s at 8, at + 8)
 unfolding hyper_at
 hyper_whole s at h = rw (le-leb _ _ h)
 
-pub quad_whole : (s : List ℕ) (at : ℕ) → at + 16 ≤ length s
-    → quad_at s at ≡ Quad (number_at s at 4) (number_at s (at + 4) 4) (number_at s (at + 8) 4) (number_at s (at + 12) 4) (at + 16)
+pub quad_whole : (s : List ℕ) (at : ℕ) → at + 16 ≤ length s → quad_at s at ≡ Ok (quad_in s at, at + 16)
 unfolding quad_at
 quad_whole s at h = rw (le-leb _ _ h)
 
 -- Where some of their octets are missing they are cut, at their own offset.
-pub word_missing : (s : List ℕ) (at : ℕ) → length s < at + 4 → word_at s at ≡ CutWord at
+pub word_missing : (s : List ℕ) (at : ℕ) → length s < at + 4 → word_at s at ≡ cut at
 unfolding word_at
 word_missing s at h = rw (lt-leb _ _ h)
 
-pub hyper_missing : (s : List ℕ) (at : ℕ) → length s < at + 8 → hyper_at s at ≡ CutHyper at
+pub hyper_missing : (s : List ℕ) (at : ℕ) → length s < at + 8 → hyper_at s at ≡ cut at
 unfolding hyper_at
 hyper_missing s at h = rw (lt-leb _ _ h)
 
-pub quad_missing : (s : List ℕ) (at : ℕ) → length s < at + 16 → quad_at s at ≡ CutQuad at
+pub quad_missing : (s : List ℕ) (at : ℕ) → length s < at + 16 → quad_at s at ≡ cut at
 unfolding quad_at
 quad_missing s at h = rw (lt-leb _ _ h)
+
+-- Two answers of a value and an offset that are the same have the same value and the same offset.
+pub same_read : {A B E : Type 0} {v w : A} {n m : B} → ◌≡◌ {A = Result (A × B) E} (Ok (v, n)) (Ok (w, m)) → (v ≡ w) × (n ≡ m)
+same_read {A} {B} {E} {v} {w} {n} {m} e = let q : ◌≡◌ {A = A × B} (v, n) (w, m) = cc in (ap (λ p. p.0) q, ap (λ p. p.1) q)
+
+-- Two cuts that are the same are at the same offset.
+pub same_cut : {A : Type 0} {p q : ℕ} → ◌≡◌ {A = Result A Cut} (cut p) (cut q) → p ≡ q
+same_cut {A} {p} {q} e = let c : ◌≡◌ {A = Cut} (record { at = p }) (record { at = q }) = cc in ap (λ c. c.at) c
 
 -- A number that was read: its octets are there, it is their number, and the next offset is behind them.
 pub record NumberRead (s : List ℕ) (at w v next : ℕ) : Type 0 where
@@ -67,59 +74,55 @@ pub record NumberRead (s : List ℕ) (at w v next : ℕ) : Type 0 where
   pub next_is : next ≡ at + w
   pub value_is : v ≡ number_at s at w
 
--- Sixteen octets that were read: they are there, the four values are their words, and the next offset is behind them.
-pub record WordsRead (s : List ℕ) (at a b c d next : ℕ) : Type 0 where
+-- Sixteen octets that were read: they are there, the value is their four words, and the next offset is behind them.
+pub record WordsRead (s : List ℕ) (at : ℕ) (q : Quad) (next : ℕ) : Type 0 where
   pub room : at + 16 ≤ length s
   pub next_is : next ≡ at + 16
-  pub first_is : a ≡ number_at s at 4
-  pub second_is : b ≡ number_at s (at + 4) 4
-  pub third_is : c ≡ number_at s (at + 8) 4
-  pub fourth_is : d ≡ number_at s (at + 12) 4
+  pub value_is : q ≡ quad_in s at
 
 -- What the answer of a value says.
-pub word_read : (s : List ℕ) (at v next : ℕ) → word_at s at ≡ Word v next → NumberRead s at 4 v next
+pub word_read : (s : List ℕ) (at v next : ℕ) → word_at s at ≡ Ok (v, next) → NumberRead s at 4 v next
 unfolding word_at
 word_read s at v next e =
     let h = tested_yes (at + 4) (length s) _ _ _ (λ q. never (cc)) e in
-    record { room = h.0; next_is = cc; value_is = cc }
+    let r = same_read h.1 in
+    record { room = h.0; next_is = sym r.1; value_is = sym r.0 }
 
-pub hyper_read : (s : List ℕ) (at v next : ℕ) → hyper_at s at ≡ Hyper v next → NumberRead s at 8 v next
+pub hyper_read : (s : List ℕ) (at v next : ℕ) → hyper_at s at ≡ Ok (v, next) → NumberRead s at 8 v next
 unfolding hyper_at
 hyper_read s at v next e =
     let h = tested_yes (at + 8) (length s) _ _ _ (λ q. never (cc)) e in
-    record { room = h.0; next_is = cc; value_is = cc }
+    let r = same_read h.1 in
+    record { room = h.0; next_is = sym r.1; value_is = sym r.0 }
 
-pub quad_read : (s : List ℕ) (at a b c d next : ℕ) → quad_at s at ≡ Quad a b c d next → WordsRead s at a b c d next
+pub quad_read : (s : List ℕ) (at : ℕ) (q : Quad) (next : ℕ) → quad_at s at ≡ Ok (q, next) → WordsRead s at q next
 unfolding quad_at
-quad_read s at a b c d next e =
+quad_read s at q next e =
     let h = tested_yes (at + 16) (length s) _ _ _ (λ q. never (cc)) e in
-    record { room = h.0; next_is = cc; first_is = cc; second_is = cc; third_is = cc; fourth_is = cc }
+    let r = same_read h.1 in
+    record { room = h.0; next_is = sym r.1; value_is = sym r.0 }
 
--- What the answer of a cut says: its offset is that of the read.
-pub word_cut : (s : List ℕ) (at p : ℕ) → word_at s at ≡ CutWord p → p ≡ at
+-- What the answer of a cut says: its offset is that of the read, and octets are missing.
+pub word_cut : (s : List ℕ) (at : ℕ) (c : Cut) → word_at s at ≡ Err c → (length s < at + 4) × (c ≡ record { at = at })
 unfolding word_at
-word_cut s at p e = let h = tested_no (at + 4) (length s) _ _ _ (λ q. never (cc)) e in cc
+word_cut s at c e =
+    let h = tested_no (at + 4) (length s) _ _ _ (λ q. never (cc)) e in
+    (h.0, cc)
 
-pub quad_cut : (s : List ℕ) (at p : ℕ) → quad_at s at ≡ CutQuad p → p ≡ at
-unfolding quad_at
-quad_cut s at p e = let h = tested_no (at + 16) (length s) _ _ _ (λ q. never (cc)) e in cc
+-- A hyper is cut where its first word is.
+pub hyper_cut : (s : List ℕ) (at : ℕ) (c : Cut) → word_at s at ≡ Err c → Err c ≡ hyper_at s at
+hyper_cut s at c e =
+    let w = word_cut s at c e in
+    let short : length s < at + 8 = (let h = w.0 in omega arith) in
+    rw w.1 (sym (hyper_missing s at short))
 
--- And that octets are missing.
-pub word_short : (s : List ℕ) (at p : ℕ) → word_at s at ≡ CutWord p → length s < at + 4
-unfolding word_at
-word_short s at p e = (tested_no (at + 4) (length s) _ _ _ (λ q. never (cc)) e).0
-
-pub hyper_short : (s : List ℕ) (at p : ℕ) → hyper_at s at ≡ CutHyper p → length s < at + 8
-unfolding hyper_at
-hyper_short s at p e = (tested_no (at + 8) (length s) _ _ _ (λ q. never (cc)) e).0
-
-pub quad_short : (s : List ℕ) (at p : ℕ) → quad_at s at ≡ CutQuad p → length s < at + 16
-unfolding quad_at
-quad_short s at p e = (tested_no (at + 16) (length s) _ _ _ (λ q. never (cc)) e).0
+-- Where sixteen octets are there, no word of theirs is cut.
+pub word_there : {A : Type 0} (s : List ℕ) (at : ℕ) (c : Cut) → word_at s at ≡ Err c → at + 4 ≤ length s → A
+word_there s at c e h = let w = (word_cut s at c e).0 in absurd (omega arith)
 
 -- A hyper is two words, the high one first.
-pub hyper_words : (s : List ℕ) (at high middle low next : ℕ) → word_at s at ≡ Word high middle → word_at s middle ≡ Word low next
-    → hyper_at s at ≡ Hyper (high * 4294967296 + low) next
+pub hyper_words : (s : List ℕ) (at high middle low next : ℕ) → word_at s at ≡ Ok (high, middle) → word_at s middle ≡ Ok (low, next)
+    → hyper_at s at ≡ Ok (high * 4294967296 + low, next)
 hyper_words s at high middle low next e f =
     let a = word_read s at high middle e in
     let b = word_read s middle low next f in
@@ -132,8 +135,8 @@ hyper_words s at high middle low next e f =
 
 -- Sixteen octets are four words.
 pub quad_words : (s : List ℕ) (at a second b third c fourth d next : ℕ)
-    → word_at s at ≡ Word a second → word_at s second ≡ Word b third → word_at s third ≡ Word c fourth → word_at s fourth ≡ Word d next
-    → quad_at s at ≡ Quad a b c d next
+    → word_at s at ≡ Ok (a, second) → word_at s second ≡ Ok (b, third) → word_at s third ≡ Ok (c, fourth) → word_at s fourth ≡ Ok (d, next)
+    → quad_at s at ≡ Ok (record { a = a; b = b; c = c; d = d }, next)
 quad_words s at a second b third c fourth d next e f g h =
     let v = word_read s at a second e in
     let w = word_read s second b third f in

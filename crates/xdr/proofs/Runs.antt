@@ -8,8 +8,8 @@ use mathlib.Core.List.{List, [], ◌∷◌}
 use lib.ListN.{length, get_or, drop, drop_of_length-le}
 use lib.Seq.{drop-cons}
 use borrow.Author.Tests.{le-leb, lt-leb}
-use Rattle.xdr.specs.Items.{items_at, total_width}
-use Rattle.xdr.specs.declared.RunRead.TheVariants.{Run, CutRun}
+use Rattle.std.specs.Prelude.{Ok}
+use Rattle.xdr.specs.Items.{cut, items_at, total_width}
 use Rattle.xdr.proofs.Reading.{never, tested_yes}
 
 -- Where the first item is there, the rest is read behind it.
@@ -18,12 +18,12 @@ unfolding items_at
 item_there s at w ws h = rw (le-leb _ _ h)
 
 -- Where the first item has octets missing, the run is cut there.
-pub item_missing : (s : List ℕ) (at w : ℕ) (ws : List ℕ) → length s < at + w → items_at s at (w ∷ ws) ≡ CutRun at
+pub item_missing : (s : List ℕ) (at w : ℕ) (ws : List ℕ) → length s < at + w → items_at s at (w ∷ ws) ≡ cut at
 unfolding items_at
 item_missing s at w ws h = rw (lt-leb _ _ h)
 
 -- The steps of a loop over the widths, which stands at the index i: no item is left, the next is there, the next has octets missing.
-pub items_end : (s : List ℕ) (at i : ℕ) (ws : List ℕ) → length ws ≤ i → items_at s at (drop i ws) ≡ Run at
+pub items_end : (s : List ℕ) (at i : ℕ) (ws : List ℕ) → length ws ≤ i → items_at s at (drop i ws) ≡ Ok at
 unfolding items_at
 items_end s at i ws h = rw (drop_of_length-le ws h)
 
@@ -32,11 +32,11 @@ pub items_step : (s : List ℕ) (at i : ℕ) (ws : List ℕ) → i < length ws �
 items_step s at i ws h r = rw (add-one, drop-cons ws i 0 h) (item_there s at (get_or ws i 0) (drop (suc i) ws) r)
 
 pub items_stop : (s : List ℕ) (at i : ℕ) (ws : List ℕ) → i < length ws → length s < at + get_or ws i 0
-    → items_at s at (drop i ws) ≡ CutRun at
+    → items_at s at (drop i ws) ≡ cut at
 items_stop s at i ws h r = rw (drop-cons ws i 0 h) (item_missing s at (get_or ws i 0) (drop (suc i) ws) r)
 
 -- Items that are all there are read.
-pub items_whole : (s : List ℕ) (at : ℕ) (ws : List ℕ) → at + total_width ws ≤ length s → items_at s at ws ≡ Run (at + total_width ws)
+pub items_whole : (s : List ℕ) (at : ℕ) (ws : List ℕ) → at + total_width ws ≤ length s → items_at s at ws ≡ Ok (at + total_width ws)
 unfolding items_at
 items_whole s at [] h = rw (add-zero at)
 items_whole s at (w ∷ ws) h =
@@ -50,7 +50,7 @@ pub record ItemsRead (s : List ℕ) (at : ℕ) (ws : List ℕ) (next : ℕ) : Ty
   pub within : at ≤ length s → next ≤ length s
 
 -- What items that were read say.
-pub items_read : (s : List ℕ) (at : ℕ) (ws : List ℕ) (next : ℕ) → items_at s at ws ≡ Run next → ItemsRead s at ws next
+pub items_read : (s : List ℕ) (at : ℕ) (ws : List ℕ) (next : ℕ) → items_at s at ws ≡ Ok next → ItemsRead s at ws next
 unfolding items_at
 items_read s at [] next e = let q : at ≡ next = cc in record { next_is = omega arith; within = λ h. omega arith }
 items_read s at (w ∷ ws) next e =

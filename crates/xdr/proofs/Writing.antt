@@ -13,8 +13,7 @@ use borrow.Author.Tests.{le-leb, lt-leb}
 use Rattle.xdr.specs.Numbers.{octets_of}
 use Rattle.xdr.specs.Items.{padded}
 use Rattle.xdr.specs.Writes.{stored, write_at, afterwards, padded_octets}
-use Rattle.xdr.specs.declared.Written.{Written}
-use Rattle.xdr.specs.declared.Written.TheVariants.{WrittenTo, Full}
+use Rattle.std.specs.Prelude.{Option, Some, None}
 use Rattle.xdr.proofs.Octets.{octets_length, octets_join, octets_low, word_octets}
 use Rattle.xdr.proofs.Reading.{never, tested, tested_yes, tested_no}
 
@@ -85,21 +84,21 @@ stored_part d at k off place xs e h r =
 
 -- Octets that fit are stored, and the answer is the offset behind them.
 pub write_fits : (d : List ℕ) (at : ℕ) (xs : List ℕ) → at + length xs ≤ length d
-    → write_at d at xs ≡ afterwards (WrittenTo (at + length xs)) (stored d at xs)
+    → write_at d at xs ≡ afterwards (Some (at + length xs)) (stored d at xs)
 unfolding write_at
 write_fits d at xs h = rw (le-leb _ _ h)
 
 -- Octets that do not fit change nothing.
-pub write_full : (d : List ℕ) (at : ℕ) (xs : List ℕ) → length d < at + length xs → write_at d at xs ≡ afterwards Full d
+pub write_full : (d : List ℕ) (at : ℕ) (xs : List ℕ) → length d < at + length xs → write_at d at xs ≡ afterwards None d
 unfolding write_at
 write_full d at xs h = rw (lt-leb _ _ h)
 
 -- The same where the number of the octets is known as n.
 pub write_fits_of : (d : List ℕ) (at n : ℕ) (xs : List ℕ) → length xs ≡ n → at + n ≤ length d
-    → write_at d at xs ≡ afterwards (WrittenTo (at + n)) (stored d at xs)
+    → write_at d at xs ≡ afterwards (Some (at + n)) (stored d at xs)
 write_fits_of d at n xs e h = let r : at + length xs ≤ length d = omega arith in write_fits d at xs r ∙ rw e
 
-pub write_full_of : (d : List ℕ) (at n : ℕ) (xs : List ℕ) → length xs ≡ n → length d < at + n → write_at d at xs ≡ afterwards Full d
+pub write_full_of : (d : List ℕ) (at n : ℕ) (xs : List ℕ) → length xs ≡ n → length d < at + n → write_at d at xs ≡ afterwards None d
 write_full_of d at n xs e h = write_full d at xs (omega arith)
 
 -- A string with its padding has so many octets as its length up to a multiple of four.
@@ -115,11 +114,11 @@ stored_padded d at xs h =
     stored_next d at (at + length xs) xs (replicate (padded (length xs) - length xs) 0) refl (rw length-replicate (omega arith))
 
 -- What a write of octets that fit leaves: its answer, and the buffer.
-pub record Fitted (d : List ℕ) (at : ℕ) (xs : List ℕ) (r : Written) (e : List ℕ) : Type 0 where
-  pub answer_is : r ≡ WrittenTo (at + length xs)
+pub record Fitted (d : List ℕ) (at : ℕ) (xs : List ℕ) (r : Option ℕ) (e : List ℕ) : Type 0 where
+  pub answer_is : r ≡ Some (at + length xs)
   pub octets_are : e ≡ stored d at xs
 
-pub wrote_fits : (d : List ℕ) (at : ℕ) (xs : List ℕ) (r : Written) (e : List ℕ)
+pub wrote_fits : (d : List ℕ) (at : ℕ) (xs : List ℕ) (r : Option ℕ) (e : List ℕ)
     → afterwards r e ≡ write_at d at xs → at + length xs ≤ length d
     → Fitted d at xs r e
 wrote_fits d at xs r e q h = let f = write_fits d at xs h in record { answer_is = cc; octets_are = cc }
@@ -130,8 +129,8 @@ pub record WriteDone (d : List ℕ) (at : ℕ) (xs : List ℕ) (next : ℕ) (e :
   pub next_is : next ≡ at + length xs
   pub octets_are : e ≡ stored d at xs
 
-pub write_done : (d : List ℕ) (at : ℕ) (xs : List ℕ) (r : Written) (e : List ℕ) (next : ℕ)
-    → afterwards r e ≡ write_at d at xs → r ≡ WrittenTo next
+pub write_done : (d : List ℕ) (at : ℕ) (xs : List ℕ) (r : Option ℕ) (e : List ℕ) (next : ℕ)
+    → afterwards r e ≡ write_at d at xs → r ≡ Some next
     → WriteDone d at xs next e
 unfolding write_at
 write_done d at xs r e next q a =
@@ -143,15 +142,15 @@ pub record NoRoom (d : List ℕ) (at : ℕ) (xs : List ℕ) (e : List ℕ) : Typ
   pub short : length d < at + length xs
   pub octets_are : e ≡ d
 
-pub write_no_room : (d : List ℕ) (at : ℕ) (xs : List ℕ) (r : Written) (e : List ℕ)
-    → afterwards r e ≡ write_at d at xs → r ≡ Full → NoRoom d at xs e
+pub write_no_room : (d : List ℕ) (at : ℕ) (xs : List ℕ) (r : Option ℕ) (e : List ℕ)
+    → afterwards r e ≡ write_at d at xs → r ≡ None → NoRoom d at xs e
 unfolding write_at
 write_no_room d at xs r e q a =
     let h = tested_no (at + length xs) (length d) _ _ _ (λ f. never (cc)) (sym q) in
     record { short = h.0; octets_are = cc }
 
 -- A write keeps the length, whatever it answers.
-pub wrote_length : (d : List ℕ) (at : ℕ) (xs : List ℕ) (r : Written) (e : List ℕ)
+pub wrote_length : (d : List ℕ) (at : ℕ) (xs : List ℕ) (r : Option ℕ) (e : List ℕ)
     → afterwards r e ≡ write_at d at xs → length e ≡ length d
 unfolding write_at
 wrote_length d at xs r e q =
@@ -172,7 +171,7 @@ write_next d at next xs ys e h =
     ∙ rw (same, stored_next d at next xs ys e h) (sym (write_fits d at (xs ++ ys) all))
 
 -- The octets of a hyper are written as those of two words, the high one first.
-pub write_hyper_words : (d : List ℕ) (at v : ℕ) (r r' : Written) (e e' : List ℕ) → at + 8 ≤ length d
+pub write_hyper_words : (d : List ℕ) (at v : ℕ) (r r' : Option ℕ) (e e' : List ℕ) → at + 8 ≤ length d
     → afterwards r e ≡ write_at d at (octets_of 4 (v / 4294967296)) → afterwards r' e' ≡ write_at e (at + 4) (octets_of 4 (v % 4294967296))
     → afterwards r' e' ≡ write_at d at (octets_of 8 v)
 write_hyper_words d at v r r' e e' h p q =

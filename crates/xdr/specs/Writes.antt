@@ -1,8 +1,6 @@
 -- What writing octets at an offset of a buffer leaves.
-use Rattle.std.specs.Prelude.{ℕ, ◌+◌, ◌-◌, Bool, cond, List, ◌++◌, length, take, drop, replicate, leb}
+use Rattle.std.specs.Prelude.{ℕ, ◌+◌, ◌-◌, Bool, cond, List, ◌++◌, length, take, drop, replicate, leb, Option, Some, None}
 use Rattle.xdr.specs.Items.{padded}
-use Rattle.xdr.specs.declared.Written.{Written}
-use Rattle.xdr.specs.declared.Written.TheVariants.{WrittenTo, Full}
 
 -- a buffer with the octets from an offset on replaced by others
 unfoldable pub stored : List ℕ → ℕ → List ℕ → List ℕ
@@ -16,9 +14,9 @@ pub data Afterwards (A : Type 0) : Type 0 where
 abbrev pub store_if : {A : Type 0} → Bool → A → A → List ℕ → ℕ → List ℕ → Afterwards A
 store_if fits done full d at xs = cond fits (afterwards done (stored d at xs)) (afterwards full d)
 
--- octets written at an offset: stored there, or nothing changed where they do not fit
-unfoldable pub write_at : List ℕ → ℕ → List ℕ → Afterwards Written
-write_at d at xs = store_if (leb (at + length xs) (length d)) (WrittenTo (at + length xs)) Full d at xs
+-- octets written at an offset: stored there, with the offset behind them, or nothing changed where they do not fit
+unfoldable pub write_at : List ℕ → ℕ → List ℕ → Afterwards (Option ℕ)
+write_at d at xs = store_if (leb (at + length xs) (length d)) (Some (at + length xs)) None d at xs
 
 -- a string's octets, then zero octets up to a multiple of four (RFC 1832, section 3.9)
 unfoldable pub padded_octets : List ℕ → List ℕ

@@ -1,26 +1,23 @@
 #![tactic(auto)]
 // Items of XDR (RFC 1832) read out of octets. Crate xdr_write writes them.
-// Every function answers for every slice and every offset, also an offset beyond the slice.
-ghost use Rattle.std.specs.Prelude.{◌≡◌, ◌+◌, ◌*◌, ◌≤◌, length};
-ghost use Rattle.xdr.specs.Items.{word_at, hyper_at, quad_at, items_at, zeros_at, padded_at};
+// Every function answers for every slice and every offset, also an offset beyond the slice. A value is given with the offset behind it.
+ghost use Rattle.std.specs.Prelude.{◌≡◌, ◌+◌, ◌*◌};
+ghost use Rattle.xdr.specs.Items.{word_at, hyper_at, quad_at, items_at, nonzero_at, padded_at};
 
-// A word, 4 octets: its value and the offset behind it, or the offset of a word that is cut short.
-#[derive(Clone, Copy)]
-pub enum WordRead {
-    Word(u32, usize),
-    CutWord(usize),
+// The offset of an item that is cut short.
+#[derive(Clone, Copy, Debug, PartialEq, Eq)]
+pub struct Cut {
+    pub at: usize,
 }
 
-pub fn read_word(s: &[u8], at: usize) -> WordRead
+// A word, 4 octets.
+pub fn read_word(s: &[u8], at: usize) -> Result<(u32, usize), Cut>
     ensures { result ≡ word_at s.now at }
 {
-    if s.len() < at {
-        return WordRead::CutWord(at);
+    if s.len() < at || s.len() - at < 4 {
+        return Err(Cut { at });
     }
-    if s.len() - at < 4 {
-        return WordRead::CutWord(at);
-    }
-    WordRead::Word(word_of(s[at], s[at + 1], s[at + 2], s[at + 3]), at + 4)
+    Ok((word_of(s[at], s[at + 1], s[at + 2], s[at + 3]), at + 4))
 }
 
 // The number that two octets are, the most significant first.
@@ -38,128 +35,76 @@ pub fn word_of(a: u8, b: u8, c: u8, d: u8) -> u32
 }
 
 // A hyper, 8 octets.
-#[derive(Clone, Copy)]
-pub enum HyperRead {
-    Hyper(u64, usize),
-    CutHyper(usize),
-}
-
-pub fn read_hyper(s: &[u8], at: usize) -> HyperRead
+pub fn read_hyper(s: &[u8], at: usize) -> Result<(u64, usize), Cut>
     ensures { result ≡ hyper_at s.now at }
 {
-    let WordRead::Word(high, middle) = read_word(s, at) else {
-        return HyperRead::CutHyper(at);
+    let (high, middle) = read_word(s, at)?;
+    let Ok((low, next)) = read_word(s, middle) else {
+        return Err(Cut { at });
     };
-    let WordRead::Word(low, next) = read_word(s, middle) else {
-        return HyperRead::CutHyper(at);
-    };
-    HyperRead::Hyper((high as u64) * 4294967296 + (low as u64), next)
+    Ok(((high as u64) * 4294967296 + (low as u64), next))
 }
 
-// The 16 octets of an IPv6 address, one item, as four words. (The 4 octets of an IPv4 address are read as a word.)
-#[derive(Clone, Copy)]
-pub enum QuadRead {
-    Quad(u32, u32, u32, u32, usize),
-    CutQuad(usize),
+// Sixteen octets as four words.
+#[derive(Clone, Copy, Debug, PartialEq, Eq)]
+pub struct Quad {
+    pub a: u32,
+    pub b: u32,
+    pub c: u32,
+    pub d: u32,
 }
 
-pub fn read_quad(s: &[u8], at: usize) -> QuadRead
+// The 16 octets of an IPv6 address, one item. (The 4 octets of an IPv4 address are read as a word.)
+pub fn read_quad(s: &[u8], at: usize) -> Result<(Quad, usize), Cut>
     ensures { result ≡ quad_at s.now at }
 {
-    let WordRead::Word(a, second) = read_word(s, at) else {
-        return QuadRead::CutQuad(at);
-    };
-    let WordRead::Word(b, third) = read_word(s, second) else {
-        return QuadRead::CutQuad(at);
-    };
-    let WordRead::Word(c, fourth) = read_word(s, third) else {
-        return QuadRead::CutQuad(at);
-    };
-    let WordRead::Word(d, next) = read_word(s, fourth) else {
-        return QuadRead::CutQuad(at);
-    };
-    QuadRead::Quad(a, b, c, d, next)
+    if s.len() < at || s.len() - at < 16 {
+        return Err(Cut { at });
+    }
+    let (a, second) = read_word(s, at)?;
+    let (b, third) = read_word(s, second)?;
+    let (c, fourth) = read_word(s, third)?;
+    let (d, next) = read_word(s, fourth)?;
+    Ok((Quad { a, b, c, d }, next))
 }
 
-// A run of items of fixed widths: the offset behind the last one, or the offset of the first that is cut short.
-#[derive(Clone, Copy)]
-pub enum RunRead {
-    Run(usize),
-    CutRun(usize),
-}
-
-// Items of these widths, whatever their values, one behind the other.
-pub fn read_run(s: &[u8], first: usize, widths: &[u8]) -> RunRead
+// Items of these widths, whatever their values, one behind the other: the offset behind the last one.
+pub fn read_run(s: &[u8], first: usize, widths: &[u8]) -> Result<usize, Cut>
     ensures { result ≡ items_at s.now first widths.now }
 {
     let mut at = first;
-    let mut i = 0;
-    while i < widths.len() {
-        let width = widths[i] as usize;
-        if s.len() < at {
-            return RunRead::CutRun(at);
-        }
-        if s.len() - at < width {
-            return RunRead::CutRun(at);
+    for width in widths {
+        let width = *width as usize;
+        if s.len() < at || s.len() - at < width {
+            return Err(Cut { at });
         }
         at += width;
-        i += 1;
     }
-    RunRead::Run(at)
+    Ok(at)
 }
 
-// A string's octets with their padding, one item: the offset behind it; or the offset of the octets where some of them or of the
-// padding are missing; or the offset of the first padding octet that is not zero.
-#[derive(Clone, Copy)]
-pub enum PaddedRead {
-    Padded(usize),
-    CutPadded(usize),
+// Why a string's octets with their padding, one item, are refused.
+#[derive(Clone, Copy, Debug, PartialEq, Eq)]
+pub enum Unpadded {
+    // some of the octets or of their padding are missing: the offset of the octets
+    CutShort(usize),
+    // the offset of the first padding octet that is not zero
     NonzeroPadding(usize),
 }
 
-pub fn read_padded(s: &[u8], at: usize, len: u32) -> PaddedRead
+// A string's octets with their padding: the offset behind it.
+pub fn read_padded(s: &[u8], at: usize, len: u32) -> Result<usize, Unpadded>
     ensures { result ≡ padded_at s.now at len }
 {
     let count = len as usize;
     let whole = (count + 3) / 4 * 4;
-    if s.len() < at {
-        return PaddedRead::CutPadded(at);
+    if s.len() < at || s.len() - at < whole {
+        return Err(Unpadded::CutShort(at));
     }
-    if s.len() - at < whole {
-        return PaddedRead::CutPadded(at);
-    }
-    match all_zero(s, at + count, whole - count) {
-        Zeros::AllZero => PaddedRead::Padded(at + whole),
-        Zeros::NotZero(p) => PaddedRead::NonzeroPadding(p),
-    }
-}
-
-// Whether octets are all zero, or the offset of the first that is not.
-#[derive(Clone, Copy)]
-pub enum Zeros {
-    AllZero,
-    NotZero(usize),
-}
-
-fn all_zero(s: &[u8], first: usize, count: usize) -> Zeros
-    requires { first + count ≤ length s.now }
-    ensures { result ≡ zeros_at s.now first count }
-{
-    let mut at = first;
-    let mut left = count;
-    while 0 < left {
-        if s[at] != 0 {
-            return Zeros::NotZero(at);
+    for p in at + count..at + whole {
+        if s[p] != 0 {
+            return Err(Unpadded::NonzeroPadding(p));
         }
-        at += 1;
-        left -= 1;
     }
-    Zeros::AllZero
-}
-
-// The offset behind what was written; or it does not fit there, and every octet is as it was.
-#[derive(Clone, Copy)]
-pub enum Written {
-    WrittenTo(usize),
-    Full,
+    Ok(at + whole)
 }
