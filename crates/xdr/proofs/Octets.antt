@@ -6,6 +6,7 @@ use native.Mathlib.Omega.{arith}
 use mathlib.Core.Path.{◌≡◌, refl, sym, ◌∙◌}
 use mathlib.Core.List.{List, [], ◌∷◌, ◌++◌, append_assoc, append-nil}
 use lib.ListN.{length, get_or, length-append}
+use Rattle.std.specs.Int.{byte_at, bytes_high_first}
 use Rattle.xdr.specs.Numbers.{number_at, octets_of, quad_number}
 
 -- The number in v octets and then w octets, from the numbers in each.
@@ -83,3 +84,16 @@ word_octets v h =
     let a : v / 256 / 256 / 256 % 256 ≡ v / 16777216 = omega arith in
     let b : v / 256 / 256 % 256 ≡ v / 65536 % 256 = omega arith in
     rw (a, b)
+
+-- A byte of a number, counted from the lowest, is what stands above the bytes below it.
+byte_above : (w v : ℕ) → byte_at w v ≡ v / 256 ^ w % 256
+byte_above zero v = omega arith
+byte_above (suc w) v = refl
+
+-- The octets of a number are the library's bytes of it.
+pub bytes_octets : (w v : ℕ) → bytes_high_first w v ≡ octets_of w v
+unfolding octets_of
+bytes_octets zero v = refl
+bytes_octets (suc w) v =
+    let more : 1 + w ≡ suc w = omega arith in
+    rw (bytes_octets w v, byte_above w v) (sym (octets_join 1 w v) ∙ rw more)

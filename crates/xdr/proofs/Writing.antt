@@ -36,6 +36,11 @@ pub stored_pasted : (d : List ℕ) (at : ℕ) (xs : List ℕ) (n : ℕ) → n �
 unfolding stored
 stored_pasted d at xs n e = rw (e, take-length) (append_assoc (take at d) xs (drop (at + length xs) d))
 
+-- A part of a buffer that becomes octets, as many as it has, is a store of them.
+pub stored_mid : (d : List ℕ) (at : ℕ) (xs : List ℕ) → put_mid at (at + length xs - at) d xs ≡ stored d at xs
+unfolding stored
+stored_mid d at xs = let k : at + length xs - at ≡ length xs = omega arith in rw (k, drop-drop)
+
 -- A store keeps the length.
 pub stored_length : (d : List ℕ) (at : ℕ) (xs : List ℕ) → at + length xs ≤ length d → length (stored d at xs) ≡ length d
 unfolding stored
@@ -112,6 +117,21 @@ pub stored_padded : (d : List ℕ) (at : ℕ) (xs : List ℕ) → at + padded (l
 unfolding padded_octets
 stored_padded d at xs h =
     stored_next d at (at + length xs) xs (replicate (padded (length xs) - length xs) 0) refl (rw length-replicate (omega arith))
+
+-- The same where the part behind the string, up to the padding's end, is filled with zeros.
+pub filled_padded : (d : List ℕ) (at : ℕ) (xs : List ℕ) → at + padded (length xs) ≤ length d
+    → let k = at + padded (length xs) - (at + length xs) in
+      put_mid (at + length xs) k (stored d at xs) (replicate (length (mid_of (at + length xs) k (stored d at xs))) 0)
+    ≡ stored d at (padded_octets xs)
+filled_padded d at xs h =
+    let e : List ℕ = stored d at xs in
+    let first : at + length xs ≤ length d = omega arith in
+    let long : length e ≡ length d = stored_length d at xs first in
+    let n : ℕ = padded (length xs) - length xs in
+    let k : at + padded (length xs) - (at + length xs) ≡ n = omega arith in
+    let part : length (mid_of (at + length xs) n e) ≡ n = rw (length-take, length-drop, long) (omega arith) in
+    let same : at + length xs + n - (at + length xs) ≡ n = omega arith in
+    rw (k, part) (rw (length-replicate, same) at (stored_mid e (at + length xs) (replicate n 0))) ∙ stored_padded d at xs h
 
 -- What a write of octets that fit leaves: its answer, and the buffer.
 pub record Fitted (d : List ℕ) (at : ℕ) (xs : List ℕ) (r : Option ℕ) (e : List ℕ) : Type 0 where

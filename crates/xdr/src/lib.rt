@@ -24,14 +24,14 @@ pub fn read_word(s: &[u8], at: usize) -> Result<(u32, usize), Cut>
 pub fn pair_of(a: u8, b: u8) -> u32
     ensures { result ≡ a * 256 + b }
 {
-    (a as u32) * 256 + (b as u32)
+    u16::from_be_bytes([a, b]) as u32
 }
 
 // The number that four octets are, the most significant first.
 pub fn word_of(a: u8, b: u8, c: u8, d: u8) -> u32
     ensures { result ≡ a * 16777216 + b * 65536 + c * 256 + d }
 {
-    (a as u32) * 16777216 + (b as u32) * 65536 + (c as u32) * 256 + (d as u32)
+    u32::from_be_bytes([a, b, c, d])
 }
 
 // A hyper, 8 octets.
