@@ -7,16 +7,17 @@ use mathlib.Core.List.{List}
 use lib.Dec.{leb}
 use borrow.Author.Tests.{le-leb, lt-leb}
 use Rattle.xdr.specs.Items.{word_at}
-use Rattle.xdr.specs.declared.WordRead.TheVariants.{Word}
 use Rattle.xdr.proofs.Reading.{word_read}
 use Rattle.sflow.specs.declared.Refusal.{Refusal}
 use Rattle.sflow.specs.Grammar.{Form, list, ◌then◌, Value, enumeration}
 use Rattle.sflow.specs.Decode.{Decoded, found, refused, mapped, entries, decode}
 use Rattle.sflow.proofs.Steps.{union_arm, union_bad, list_word, then_found, then_refused, entries_count}
 use Rattle.sflow.proofs.Ends.{end_is}
-use Rattle.fields.specs.declared.runs.Passed.TheVariants.{Next, Refused}
 use Rattle.fields.specs.Parts.{size, entries_at, as_passed}
 use Rattle.fields.proofs.Passing.{passed_next, passed_refused}
+use Rattle.std.specs.Prelude.{Ok, Err}
+use Rattle.std.specs.Prelude.{Ok, Err}
+use Rattle.sflow.specs.Decode.{refused_at}
 
 -- a view of a view
 pub mapped_again : {A B C : Type 0} (f : B → C) (g : A → B) (d : Decoded A) → mapped (λ v. f (g v)) d ≡ mapped f (mapped g d)
@@ -60,9 +61,9 @@ module _ (f g : Form) (s : List ℕ) (at : ℕ) {A B : Type 0} (first : Value f 
 
 -- ---- lists
 
-module _ (g : Form) (s : List ℕ) (at n first : ℕ) (e : word_at s at ≡ Word n first) where
+module _ (g : Form) (s : List ℕ) (at n first : ℕ) (e : word_at s at ≡ Ok (n, first)) where
   -- a list whose entries are all there
-  pub list_seen : (next : ℕ) → as_passed (entries (decode g s) n first) ≡ Next next
+  pub list_seen : (next : ℕ) → as_passed (entries (decode g s) n first) ≡ Ok next
       → mapped (entries_at (at + 4)) (decode (list g) s at) ≡ found (record { at = first; count = n }) next
   list_seen next h =
       let r = passed_next (entries (decode g s) n first) next h in
@@ -70,13 +71,13 @@ module _ (g : Form) (s : List ℕ) (at n first : ℕ) (e : word_at s at ≡ Word
       ∙ rw (r.1, entries_count (decode g s) n first r.0 next r.1, (word_read s at n first e).next_is)
 
   -- a list with an entry that is refused
-  pub list_unseen : {A : Type 0} (view : List (Value g) → A) (why : Refusal) (p : ℕ) → as_passed (entries (decode g s) n first) ≡ Refused why p
+  pub list_unseen : {A : Type 0} (view : List (Value g) → A) (why : Refusal) (p : ℕ) → as_passed (entries (decode g s) n first) ≡ Err (refused_at why p)
       → mapped view (decode (list g) s at) ≡ refused why p
   list_unseen view why p h = list_word g s at view n first e ∙ rw (passed_refused (entries (decode g s) n first) why p h)
 
 -- ---- enumerations
 
-module _ (why : Refusal) (most : ℕ) (f : Form) (s : List ℕ) (at : ℕ) {A : Type 0} (view : Value (enumeration why most f) → A) (v next : ℕ) (e : word_at s at ≡ Word v next) where
+module _ (why : Refusal) (most : ℕ) (f : Form) (s : List ℕ) (at : ℕ) {A : Type 0} (view : Value (enumeration why most f) → A) (v next : ℕ) (e : word_at s at ≡ Ok (v, next)) where
   -- a value from 1 on, up to the last
   pub enumeration_in : 1 ≤ v → v ≤ most → mapped view (decode (enumeration why most f) s at) ≡ mapped (λ w. view (v, w)) (decode f s next)
   enumeration_in low high =

@@ -5,3 +5,4 @@ pub mod FixedItems
 pub mod Compounds
 pub mod Forms
 pub mod Answers
+pub mod WordRows

@@ -1,12 +1,9 @@
 -- Values of addresses (RFC 3176, section 4, "Address Types").
 use Rattle.std.specs.Prelude.{ℕ, ◌/◌, ◌%◌, ◌^◌, cond, eqb}
 use Rattle.sflow.specs.Grammar.{Value}
-use Rattle.sflow.specs.Decode.{Decoded, found, refused}
 use Rattle.sflow.specs.Datagram.{address}
-use Rattle.fields.specs.declared.address.Quad.{Quad}
+use Rattle.xdr.specs.declared.Quad.{Quad}
 use Rattle.fields.specs.declared.address.Address.{Address}
-use Rattle.fields.specs.declared.address.AddressRead.{AddressRead}
-use Rattle.fields.specs.declared.address.AddressRead.TheVariants.{Found, Refused}
 use Rattle.fields.specs.Parts.{item}
 
 -- sixteen octets as four words
@@ -19,7 +16,3 @@ first_word n = record { a = n; b = 0; c = 0; d = 0 }
 
 abbrev pub address_of : Value address → Address
 address_of v = record { kind = v.0; octets = cond (eqb v.0 1) (first_word (item v.1 0)) (quad_of (item v.1 0)) }
-
-abbrev pub as_address : Decoded Address → AddressRead
-as_address (found v next) = Found v next
-as_address (refused why p) = Refused why p

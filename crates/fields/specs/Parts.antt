@@ -1,9 +1,8 @@
 -- What the values of all forms share.
-use Rattle.std.specs.Prelude.{ℕ, List, length, get_or}
+use Rattle.std.specs.Prelude.{ℕ, zero, suc, List, length, get_or, Result, Ok, Err}
 use Rattle.sflow.specs.Grammar.{Form, Value, encode}
-use Rattle.sflow.specs.Decode.{Decoded, found, refused}
-use Rattle.fields.specs.declared.runs.Passed.{Passed}
-use Rattle.fields.specs.declared.runs.Passed.TheVariants.{Next, Refused}
+use Rattle.sflow.specs.Decode.{Decoded, found, refused, refused_at}
+use Rattle.sflow.specs.declared.Refused.{Refused}
 use Rattle.fields.specs.declared.words.Entries.{Entries}
 
 -- the number at a position of a list, counted from 0: a run's item, or an octet
@@ -19,6 +18,16 @@ abbrev pub entries_at : {A : Type 0} → ℕ → List A → Entries
 entries_at at vs = record { at = at; count = length vs }
 
 -- the offset behind what was found, whatever it is
-abbrev pub as_passed : {A : Type 0} → Decoded A → Passed
-as_passed (found v next) = Next next
-as_passed (refused why p) = Refused why p
+abbrev pub as_passed : {A : Type 0} → Decoded A → Result ℕ Refused
+as_passed (found v next) = Ok next
+as_passed (refused why p) = Err (refused_at why p)
+
+-- goes on behind what was passed over; a refusal stays
+abbrev pub behind : Result ℕ Refused → (ℕ → Result ℕ Refused) → Result ℕ Refused
+behind (Ok next) f = f next
+behind (Err refusal) f = Err refusal
+
+-- so many entries passed over, one behind the other
+unfoldable pub pass_each : (ℕ → Result ℕ Refused) → ℕ → ℕ → Result ℕ Refused
+pass_each entry zero at = Ok at
+pass_each entry (suc n) at = behind (entry at) (pass_each entry n)

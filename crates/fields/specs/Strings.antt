@@ -1,9 +1,6 @@
 -- Values of strings.
 use Rattle.std.specs.Prelude.{ℕ, ◌+◌, List, length, take, drop}
-use Rattle.sflow.specs.Decode.{Decoded, found, refused}
 use Rattle.fields.specs.declared.strings.Text.{Text}
-use Rattle.fields.specs.declared.strings.StringRead.{StringRead}
-use Rattle.fields.specs.declared.strings.StringRead.TheVariants.{Found, Refused}
 
 -- a string at its length word
 abbrev pub text_of : ℕ → List ℕ → Text
@@ -12,7 +9,3 @@ text_of at xs = record { at = at + 4; length = length xs }
 -- the octets of a string that stands at a place
 abbrev pub text_in : List ℕ → Text → List ℕ
 text_in s t = take t.length (drop t.at s)
-
-abbrev pub as_string : Decoded Text → StringRead
-as_string (found v next) = Found v next
-as_string (refused why p) = Refused why p

@@ -1,37 +1,24 @@
-// Four words in a row; lists of words.
+// Words in a row; lists of words.
 ghost use Rattle.std.specs.Prelude.{◌≡◌};
-ghost use Rattle.sflow.specs.Decode.{decode, entries};
+ghost use Rattle.sflow.specs.Decode.{decode, entries, as_read};
 ghost use Rattle.sflow.specs.Datagram.{word};
 ghost use Rattle.fields.specs.Parts.{as_passed};
-ghost use Rattle.fields.specs.Words.{four_words, as_four};
+ghost use Rattle.fields.specs.Words.{words};
 
-use crate::runs::Passed;
-use sflow::Refusal;
-use xdr::WordRead;
+use sflow::{Refusal, Refused};
 
-// Four words, each an item of its own: their values and the offset behind them, or the offset of the first that is cut short.
-#[derive(Clone, Copy)]
-pub enum FourRead {
-    Four(u32, u32, u32, u32, usize),
-    CutFour(usize),
-}
-
-pub fn read_four(s: &[u8], at: usize) -> FourRead
-    ensures { result ≡ as_four (decode four_words s.now at) }
+// So many words, each an item of its own, in one comparison.
+pub fn read_words<const N: usize>(s: &[u8], at: usize) -> Result<([u32; N], usize), Refused>
+    ensures { result ≡ as_read (decode (words N) s.now at) }
 {
-    let WordRead::Word(a, second) = xdr::read_word(s, at) else {
-        return FourRead::CutFour(at);
-    };
-    let WordRead::Word(b, third) = xdr::read_word(s, second) else {
-        return FourRead::CutFour(second);
-    };
-    let WordRead::Word(c, fourth) = xdr::read_word(s, third) else {
-        return FourRead::CutFour(third);
-    };
-    let WordRead::Word(d, next) = xdr::read_word(s, fourth) else {
-        return FourRead::CutFour(fourth);
-    };
-    FourRead::Four(a, b, c, d, next)
+    let mut values = [0; N];
+    let mut next = at;
+    for value in &mut values {
+        let (word, behind) = xdr::read_word(s, next)?;
+        *value = word;
+        next = behind;
+    }
+    Ok((values, next))
 }
 
 // The offset of a list's first entry, and how many entries there are. Each entry says where the next one begins; words lie 4 octets
@@ -43,19 +30,25 @@ pub struct Entries {
 }
 
 // So many words, in one comparison whatever the count.
-pub fn pass_words(s: &[u8], first: usize, count: u32) -> Passed
+pub fn pass_words(s: &[u8], first: usize, count: u32) -> Result<usize, Refused>
     ensures { result ≡ as_passed (entries (decode word s.now) count first) }
 {
     if count == 0 {
-        return Passed::Next(first);
+        return Ok(first);
     }
     if s.len() < first {
-        return Passed::Refused(Refusal::CutItem, first);
+        return Err(Refused {
+            why: Refusal::CutItem,
+            at: first,
+        });
     }
     let left = s.len() - first;
     let whole = (count as usize) * 4;
     if left < whole {
-        return Passed::Refused(Refusal::CutItem, first + left / 4 * 4);
+        return Err(Refused {
+            why: Refusal::CutItem,
+            at: first + left / 4 * 4,
+        });
     }
-    Passed::Next(first + whole)
+    Ok(first + whole)
 }

@@ -8,19 +8,18 @@ use lib.ListN.{length, take, drop, length-append, length-take, length-drop}
 use lib.Dec.{leb}
 use borrow.Author.Tests.{leb-true}
 use Rattle.xdr.specs.Numbers.{number_at}
-use Rattle.xdr.specs.Items.{word_at, items_at, numbers_at, zeros_at, padded, with_padding, padded_at}
+use Rattle.xdr.specs.Items.{word_at, items_at, numbers_at, nonzero_at, padded, with_padding, padded_at}
 use Rattle.xdr.proofs.Octets.{octets_length}
 use Rattle.xdr.proofs.Writing.{padded_length}
-use Rattle.xdr.specs.declared.WordRead.TheVariants.{Word, CutWord}
-use Rattle.xdr.specs.declared.RunRead.{RunRead}
-use Rattle.xdr.specs.declared.RunRead.TheVariants.{Run, CutRun}
-use Rattle.xdr.specs.declared.Zeros.{Zeros}
-use Rattle.xdr.specs.declared.Zeros.TheVariants.{AllZero, NotZero}
-use Rattle.xdr.specs.declared.PaddedRead.TheVariants.{CutPadded}
 use Rattle.sflow.specs.declared.Refusal.{Refusal}
 use Rattle.sflow.specs.declared.Refusal.TheVariants.{CutItem}
 use Rattle.sflow.specs.Grammar.{Limit, unlimited, at_most, Form, fixed, discriminated, opaque, list, ◌then◌, Value, octets_of_each, encode}
 use Rattle.sflow.specs.Decode.{Decoded, found, refused, and_then, word_item, fixed_items, string_item, limited, entries, decode}
+use Rattle.std.specs.Prelude.{Result, Ok, Err, Option, Some, None}
+use Rattle.xdr.specs.Items.{cut}
+use Rattle.xdr.specs.declared.Cut.{Cut}
+use Rattle.xdr.specs.declared.Unpadded.{Unpadded}
+use Rattle.xdr.specs.declared.Unpadded.TheVariants.{CutShort, NonzeroPadding}
 
 -- the value that is found has a length, and ends so far behind an offset
 abbrev EndsAfter : {A : Type 0} → (A → ℕ) → ℕ → Decoded A → Type 0
@@ -33,11 +32,11 @@ size g v = length (encode g v)
 on_word : {B : Type 0} (P : Decoded B → Type 0) (f : ℕ → ℕ → Decoded B) (s : List ℕ) (at : ℕ)
     → P (refused CutItem at) → ((v : ℕ) → P (f v (at + 4))) → P (and_then (word_item (word_at s at)) f)
 unfolding word_at
-on_word P f s at cut whole = go (leb (at + 4) (length s))
+on_word P f s at short whole = go (leb (at + 4) (length s))
   where
-    go : (b : Bool) → P (and_then (word_item (cond b (Word (number_at s at 4) (at + 4)) (CutWord at))) f)
+    go : (b : Bool) → P (and_then (word_item (cond b (Ok (number_at s at 4, at + 4)) (cut at))) f)
     go true = whole (number_at s at 4)
-    go false = cut
+    go false = short
 
 -- two values, one behind the other
 both_end : {A B C : Type 0} (sizeA : A → ℕ) (sizeB : B → ℕ) (sizeC : C → ℕ) (pair : A → B → C) (at : ℕ)
@@ -53,20 +52,20 @@ both_end sizeA sizeB sizeC pair at e (found a next) h f more = go (f next) (more
 
 -- ---- items
 
-abbrev RunEnds : List ℕ → ℕ → List ℕ → RunRead → Type 0
-RunEnds s at ws (Run next) = next ≡ at + length (octets_of_each ws (numbers_at s at ws))
-RunEnds s at ws (CutRun p) = Unit {0}
+abbrev RunEnds : List ℕ → ℕ → List ℕ → Result ℕ Cut → Type 0
+RunEnds s at ws (Ok next) = next ≡ at + length (octets_of_each ws (numbers_at s at ws))
+RunEnds s at ws (Err p) = Unit {0}
 
 items_end : (s ws : List ℕ) (at : ℕ) → RunEnds s at ws (items_at s at ws)
 unfolding items_at numbers_at octets_of_each
 items_end s [] at = omega arith
 items_end s (w ∷ ws) at = go (leb (at + w) (length s)) (items_end s ws (at + w))
   where
-    more : (r : RunRead) → RunEnds s (at + w) ws r → RunEnds s at (w ∷ ws) r
-    more (Run next) h = rw (length-append, octets_length) (omega arith)
-    more (CutRun p) h = tt
+    more : (r : Result ℕ Cut) → RunEnds s (at + w) ws r → RunEnds s at (w ∷ ws) r
+    more (Ok next) h = rw (length-append, octets_length) (omega arith)
+    more (Err p) h = tt
 
-    go : (b : Bool) → RunEnds s (at + w) ws (items_at s (at + w) ws) → RunEnds s at (w ∷ ws) (cond b (items_at s (at + w) ws) (CutRun at))
+    go : (b : Bool) → RunEnds s (at + w) ws (items_at s (at + w) ws) → RunEnds s at (w ∷ ws) (cond b (items_at s (at + w) ws) (cut at))
     go true rest = more (items_at s (at + w) ws) rest
     go false rest = tt
 
@@ -74,24 +73,24 @@ fixed_end : (s ws : List ℕ) (at : ℕ) → EndsAfter (size (fixed ws)) at (fix
 unfolding encode
 fixed_end s ws at = go (items_at s at ws) (items_end s ws at)
   where
-    go : (r : RunRead) → RunEnds s at ws r → EndsAfter (size (fixed ws)) at (fixed_items (numbers_at s at ws) r)
-    go (Run next) h = h
-    go (CutRun p) h = tt
+    go : (r : Result ℕ Cut) → RunEnds s at ws r → EndsAfter (size (fixed ws)) at (fixed_items (numbers_at s at ws) r)
+    go (Ok next) h = h
+    go (Err p) h = tt
 
 string_end : (limit : Limit) (s : List ℕ) (at n : ℕ) → EndsAfter (size (opaque limit)) at (string_item (take n (drop (at + 4) s)) (padded_at s (at + 4) n))
 unfolding encode padded_at
 string_end limit s at n = go (leb (at + 4 + padded n) (length s)) refl
   where
-    zeros : at + 4 + padded n ≤ length s → (z : Zeros) → EndsAfter (size (opaque limit)) at (string_item (take n (drop (at + 4) s)) (with_padding (at + 4 + padded n) z))
-    zeros room AllZero =
+    zeros : at + 4 + padded n ≤ length s → (z : Option ℕ) → EndsAfter (size (opaque limit)) at (string_item (take n (drop (at + 4) s)) (with_padding (at + 4 + padded n) z))
+    zeros room None =
         let long : length (take n (drop (at + 4) s)) ≡ n = rw (length-take, length-drop) (omega arith) in
         rw (length-append, octets_length, padded_length, long) (omega arith)
-    zeros room (NotZero p) = tt
+    zeros room (Some p) = tt
 
     go : (b : Bool) → leb (at + 4 + padded n) (length s) ≡ b
         → EndsAfter (size (opaque limit)) at (string_item (take n (drop (at + 4) s))
-        (cond b (with_padding (at + 4 + padded n) (zeros_at s (at + 4 + n) (padded n - n))) (CutPadded (at + 4))))
-    go true e = zeros (leb-true _ _ e) (zeros_at s (at + 4 + n) (padded n - n))
+        (cond b (with_padding (at + 4 + padded n) (nonzero_at s (at + 4 + n) (padded n - n))) (Err (CutShort (at + 4)))))
+    go true e = zeros (leb-true _ _ e) (nonzero_at s (at + 4 + n) (padded n - n))
     go false e = tt
 
 limited_end : (limit : Limit) (n at : ℕ) (size' : List ℕ → ℕ) (d : Decoded (List ℕ)) → EndsAfter size' at d → EndsAfter size' at (limited limit n at d)

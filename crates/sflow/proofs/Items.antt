@@ -10,19 +10,17 @@ use lib.Seq.{take_at}
 use lib.Dec.{leb, eqb}
 use borrow.Author.Tests.{le-leb, leb-true, eqb-true, eq-eqb}
 use Rattle.xdr.specs.Numbers.{Octets, number_at, octets_of}
-use Rattle.xdr.specs.Items.{word_at, items_at, numbers_at, total_width, zeros_at, padded, with_padding, padded_at}
+use Rattle.xdr.specs.Items.{word_at, items_at, numbers_at, total_width, nonzero_at, padded, with_padding, padded_at}
 use Rattle.xdr.specs.Writes.{padded_octets}
 use Rattle.xdr.proofs.Octets.{octets_length}
-use Rattle.xdr.specs.declared.WordRead.TheVariants.{Word}
-use Rattle.xdr.specs.declared.RunRead.{RunRead}
-use Rattle.xdr.specs.declared.RunRead.TheVariants.{Run, CutRun}
-use Rattle.xdr.specs.declared.Zeros.{Zeros}
-use Rattle.xdr.specs.declared.Zeros.TheVariants.{AllZero, NotZero}
-use Rattle.xdr.specs.declared.PaddedRead.{PaddedRead}
-use Rattle.xdr.specs.declared.PaddedRead.TheVariants.{Padded, CutPadded, NonzeroPadding}
 use Rattle.sflow.specs.Slices.{Slice}
 use Rattle.sflow.specs.Grammar.{Fits, octets_of_each}
 use Rattle.sflow.proofs.Slices.{empty, join, ends, first, second, octet, single, window, window_length}
+use Rattle.std.specs.Prelude.{Result, Ok, Err, Option, Some, None}
+use Rattle.xdr.specs.Items.{cut}
+use Rattle.xdr.specs.declared.Cut.{Cut}
+use Rattle.xdr.specs.declared.Unpadded.{Unpadded}
+use Rattle.xdr.specs.declared.Unpadded.TheVariants.{CutShort, NonzeroPadding}
 
 -- ---- numbers, over the width
 
@@ -67,7 +65,7 @@ pub record WordSlice (s : List ℕ) (at v next : ℕ) : Type 0 where
 pub word_slice : (s : List ℕ) → Octets s → (at : ℕ) → at + 4 ≤ length s → WordSlice s at (number_at s at 4) (at + 4)
 word_slice s o at h = record { slice = number_slice s o at 4 h; small = number_small s o at 4 }
 
-pub word_read : (s : List ℕ) (at v next : ℕ) (ys : List ℕ) → v < 2 ^ 32 → Slice s at next (octets_of 4 v ++ ys) → word_at s at ≡ Word v (at + 4)
+pub word_read : (s : List ℕ) (at v next : ℕ) (ys : List ℕ) → v < 2 ^ 32 → Slice s at next (octets_of 4 v ++ ys) → word_at s at ≡ Ok (v, (at + 4))
 unfolding word_at
 word_read s at v next ys h p =
     let q : Slice s at (at + 4) (octets_of 4 v) = rw (octets_length 4 v) at (first (octets_of 4 v) ys p) in
@@ -79,21 +77,21 @@ word_rest s at v next ys p = rw (octets_length 4 v) at (second (octets_of 4 v) y
 
 -- ---- runs of items
 
-abbrev pub RunGood : List ℕ → ℕ → List ℕ → RunRead → Type 0
-RunGood s at ws (Run next) = Fits ws (numbers_at s at ws) × Slice s at next (octets_of_each ws (numbers_at s at ws))
-RunGood s at ws (CutRun p) = Unit {0}
+abbrev pub RunGood : List ℕ → ℕ → List ℕ → Result ℕ Cut → Type 0
+RunGood s at ws (Ok next) = Fits ws (numbers_at s at ws) × Slice s at next (octets_of_each ws (numbers_at s at ws))
+RunGood s at ws (Err p) = Unit {0}
 
 pub items_good : (s : List ℕ) → Octets s → (ws : List ℕ) (at : ℕ) → at ≤ length s → RunGood s at ws (items_at s at ws)
 unfolding items_at numbers_at octets_of_each
 items_good s o [] at h = (tt, empty s at h)
 items_good s o (w ∷ ws) at h = go (leb (at + w) (length s)) refl (items_good s o ws (at + w))
   where
-    more : at + w ≤ length s → (r : RunRead) → RunGood s (at + w) ws r → RunGood s at (w ∷ ws) r
-    more room (Run next) q = ((number_small s o at w, q.0), join (number_slice s o at w room) q.1)
-    more room (CutRun p) q = tt
+    more : at + w ≤ length s → (r : Result ℕ Cut) → RunGood s (at + w) ws r → RunGood s at (w ∷ ws) r
+    more room (Ok next) q = ((number_small s o at w, q.0), join (number_slice s o at w room) q.1)
+    more room (Err p) q = tt
 
     go : (b : Bool) → leb (at + w) (length s) ≡ b → (at + w ≤ length s → RunGood s (at + w) ws (items_at s (at + w) ws))
-        → RunGood s at (w ∷ ws) (cond b (items_at s (at + w) ws) (CutRun at))
+        → RunGood s at (w ∷ ws) (cond b (items_at s (at + w) ws) (cut at))
     go true e rest = let room : at + w ≤ length s = leb-true _ _ e in more room (items_at s (at + w) ws) (rest room)
     go false e rest = tt
 
@@ -105,12 +103,12 @@ each_length (w ∷ ws) [] f = absurd f
 each_length (w ∷ ws) (v ∷ vs) f = rw (length-append, octets_length w v, each_length ws vs f.1)
 
 pub record ItemsRead (s : List ℕ) (at next : ℕ) (ws vs : List ℕ) : Type 0 where
-  pub items : items_at s at ws ≡ Run next
+  pub items : items_at s at ws ≡ Ok next
   pub numbers : numbers_at s at ws ≡ vs
 
 pub items_read : (s : List ℕ) (ws vs : List ℕ) (at next : ℕ) → Fits ws vs → Slice s at next (octets_of_each ws vs) → ItemsRead s at next ws vs
 unfolding items_at numbers_at octets_of_each
-items_read s [] [] at next f p = let e : next ≡ at + 0 = ends p in let e' : at ≡ next = omega arith in record { items = ap Run e'; numbers = refl }
+items_read s [] [] at next f p = let e : next ≡ at + 0 = ends p in let e' : at ≡ next = omega arith in record { items = ap Ok e'; numbers = refl }
 items_read s [] (v ∷ vs) at next f p = absurd f
 items_read s (w ∷ ws) [] at next f p = absurd f
 items_read s (w ∷ ws) (v ∷ vs) at next f p =
@@ -124,29 +122,29 @@ items_read s (w ∷ ws) (v ∷ vs) at next f p =
 
 -- ---- strings
 
-abbrev pub ZerosGood : List ℕ → ℕ → ℕ → Zeros → Type 0
-ZerosGood s at n AllZero = Slice s at (at + n) (replicate n 0)
-ZerosGood s at n (NotZero p) = Unit {0}
+abbrev pub ZerosGood : List ℕ → ℕ → ℕ → Option ℕ → Type 0
+ZerosGood s at n None = Slice s at (at + n) (replicate n 0)
+ZerosGood s at n (Some p) = Unit {0}
 
-pub zeros_good : (s : List ℕ) (n at : ℕ) → at + n ≤ length s → ZerosGood s at n (zeros_at s at n)
-unfolding zeros_at
+pub zeros_good : (s : List ℕ) (n at : ℕ) → at + n ≤ length s → ZerosGood s at n (nonzero_at s at n)
+unfolding nonzero_at
 zeros_good s zero at h = let z : at + 0 ≡ at = omega arith in rw z (empty s at (omega arith))
 zeros_good s (suc n) at h = go (eqb (get_or s at 0) 0) refl (zeros_good s n (at + 1) (omega arith))
   where
-    more : get_or s at 0 ≡ 0 → (z : Zeros) → ZerosGood s (at + 1) n z → ZerosGood s at (suc n) z
-    more e AllZero q =
+    more : get_or s at 0 ≡ 0 → (z : Option ℕ) → ZerosGood s (at + 1) n z → ZerosGood s at (suc n) z
+    more e None q =
         let f : at + suc n ≡ at + 1 + n = omega arith in
         let one : Slice s at (at + 1) (0 ∷ []) = rw e at (single s at (omega arith)) in
         rw f (join one q)
-    more e (NotZero p) q = tt
+    more e (Some p) q = tt
 
-    go : (b : Bool) → eqb (get_or s at 0) 0 ≡ b → ZerosGood s (at + 1) n (zeros_at s (at + 1) n)
-        → ZerosGood s at (suc n) (cond b (zeros_at s (at + 1) n) (NotZero at))
-    go true e rest = more (eqb-true _ _ e) (zeros_at s (at + 1) n) rest
+    go : (b : Bool) → eqb (get_or s at 0) 0 ≡ b → ZerosGood s (at + 1) n (nonzero_at s (at + 1) n)
+        → ZerosGood s at (suc n) (cond b (nonzero_at s (at + 1) n) (Some at))
+    go true e rest = more (eqb-true _ _ e) (nonzero_at s (at + 1) n) rest
     go false e rest = tt
 
-pub zeros_read : (s : List ℕ) (n at next : ℕ) → Slice s at next (replicate n 0) → zeros_at s at n ≡ AllZero
-unfolding zeros_at
+pub zeros_read : (s : List ℕ) (n at next : ℕ) → Slice s at next (replicate n 0) → nonzero_at s at n ≡ None
+unfolding nonzero_at
 zeros_read s zero at next p = refl
 zeros_read s (suc n) at next p =
     simp (eq-eqb _ _ (octet p)) (zeros_read s n (at + 1) next (second (0 ∷ []) (replicate n 0) p))
@@ -155,33 +153,33 @@ pub record StringSlice (s : List ℕ) (at next n : ℕ) : Type 0 where
   pub long : length (take n (drop at s)) ≡ n
   pub slice : Slice s at next (padded_octets (take n (drop at s)))
 
-abbrev pub StringGood : List ℕ → ℕ → ℕ → PaddedRead → Type 0
-StringGood s at n (Padded next) = StringSlice s at next n
-StringGood s at n (CutPadded p) = Unit {0}
-StringGood s at n (NonzeroPadding p) = Unit {0}
+abbrev pub StringGood : List ℕ → ℕ → ℕ → Result ℕ Unpadded → Type 0
+StringGood s at n (Ok next) = StringSlice s at next n
+StringGood s at n (Err (CutShort p)) = Unit {0}
+StringGood s at n (Err (NonzeroPadding p)) = Unit {0}
 
 pub string_good : (s : List ℕ) (at n : ℕ) → StringGood s at n (padded_at s at n)
 unfolding padded_at padded_octets
 string_good s at n = go (leb (at + padded n) (length s)) refl
   where
-    zeros : at + padded n ≤ length s → (z : Zeros) → ZerosGood s (at + n) (padded n - n) z → StringGood s at n (with_padding (at + padded n) z)
-    zeros room AllZero q =
+    zeros : at + padded n ≤ length s → (z : Option ℕ) → ZerosGood s (at + n) (padded n - n) z → StringGood s at n (with_padding (at + padded n) z)
+    zeros room None q =
         let there : at + n ≤ length s = omega arith in
         let long = window_length s at n there in
         let e : at + n + (padded n - n) ≡ at + padded n = omega arith in
         let whole : Slice s at (at + padded n) (take n (drop at s) ++ replicate (padded n - n) 0) = rw e at (join (window s at n there) q) in
         record { long = long; slice = rw long whole }
-    zeros room (NotZero p) q = tt
+    zeros room (Some p) q = tt
 
     go : (b : Bool) → leb (at + padded n) (length s) ≡ b
-        → StringGood s at n (cond b (with_padding (at + padded n) (zeros_at s (at + n) (padded n - n))) (CutPadded at))
+        → StringGood s at n (cond b (with_padding (at + padded n) (nonzero_at s (at + n) (padded n - n))) (Err (CutShort at)))
     go true e =
         let room : at + padded n ≤ length s = leb-true _ _ e in
-        zeros room (zeros_at s (at + n) (padded n - n)) (zeros_good s (padded n - n) (at + n) (omega arith))
+        zeros room (nonzero_at s (at + n) (padded n - n)) (zeros_good s (padded n - n) (at + n) (omega arith))
     go false e = tt
 
 pub record StringRead (s : List ℕ) (at next : ℕ) (xs : List ℕ) : Type 0 where
-  pub padding : padded_at s at (length xs) ≡ Padded next
+  pub padding : padded_at s at (length xs) ≡ Ok next
   pub octets : take (length xs) (drop at s) ≡ xs
 
 pub string_read : (s : List ℕ) (at next : ℕ) (xs : List ℕ) → Slice s at next (padded_octets xs) → StringRead s at next xs

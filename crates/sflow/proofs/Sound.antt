@@ -8,11 +8,6 @@ use lib.Dec.{T, leb}
 use borrow.Author.Tests.{leb-true}
 use Rattle.xdr.specs.Numbers.{Octets, number_at}
 use Rattle.xdr.specs.Items.{word_at, items_at, numbers_at, padded_at}
-use Rattle.xdr.specs.declared.WordRead.TheVariants.{Word, CutWord}
-use Rattle.xdr.specs.declared.RunRead.{RunRead}
-use Rattle.xdr.specs.declared.RunRead.TheVariants.{Run, CutRun}
-use Rattle.xdr.specs.declared.PaddedRead.{PaddedRead}
-use Rattle.xdr.specs.declared.PaddedRead.TheVariants.{Padded, CutPadded, NonzeroPadding}
 use Rattle.sflow.specs.declared.Refusal.{Refusal}
 use Rattle.sflow.specs.declared.Refusal.TheVariants.{CutItem}
 use Rattle.sflow.specs.Slices.{Slice}
@@ -20,6 +15,11 @@ use Rattle.sflow.specs.Grammar.{Limit, unlimited, at_most, Form, fixed, discrimi
 use Rattle.sflow.specs.Decode.{Decoded, found, refused, and_then, word_item, fixed_items, string_item, limited, entries, decode}
 use Rattle.sflow.proofs.Slices.{empty, join, octets_drop, octets_take}
 use Rattle.sflow.proofs.Items.{WordSlice, word_slice, RunGood, items_good, StringGood, string_good}
+use Rattle.std.specs.Prelude.{Result, Ok, Err, Option, Some, None}
+use Rattle.xdr.specs.Items.{cut}
+use Rattle.xdr.specs.declared.Cut.{Cut}
+use Rattle.xdr.specs.declared.Unpadded.{Unpadded}
+use Rattle.xdr.specs.declared.Unpadded.TheVariants.{CutShort, NonzeroPadding}
 
 -- a value that the form allows, whose octets stand from an offset up to another
 pub record Read (g : Form) (s : List ℕ) (at : ℕ) (v : Value g) (next : ℕ) : Type 0 where
@@ -35,33 +35,33 @@ Good g s at (refused why p) = Unit {0}
 on_word : {B : Type 0} (P : Decoded B → Type 0) (f : ℕ → ℕ → Decoded B) (s : List ℕ) → Octets s → (at : ℕ)
     → P (refused CutItem at) → ((v next : ℕ) → WordSlice s at v next → P (f v next)) → P (and_then (word_item (word_at s at)) f)
 unfolding word_at
-on_word P f s o at cut whole = go (leb (at + 4) (length s)) refl
+on_word P f s o at short whole = go (leb (at + 4) (length s)) refl
   where
-    go : (b : Bool) → leb (at + 4) (length s) ≡ b → P (and_then (word_item (cond b (Word (number_at s at 4) (at + 4)) (CutWord at))) f)
+    go : (b : Bool) → leb (at + 4) (length s) ≡ b → P (and_then (word_item (cond b (Ok (number_at s at 4, at + 4)) (cut at))) f)
     go true e = whole (number_at s at 4) (at + 4) (word_slice s o at (leb-true _ _ e))
-    go false e = cut
+    go false e = short
 
 fixed_good : (s : List ℕ) → Octets s → (ws : List ℕ) (at : ℕ) → at ≤ length s → Good (fixed ws) s at (fixed_items (numbers_at s at ws) (items_at s at ws))
 unfolding encode
 fixed_good s o ws at h = go (items_at s at ws) (items_good s o ws at h)
   where
-    go : (r : RunRead) → RunGood s at ws r → Good (fixed ws) s at (fixed_items (numbers_at s at ws) r)
-    go (Run next) q = record { valid = q.0; slice = q.1 }
-    go (CutRun p) q = tt
+    go : (r : Result ℕ Cut) → RunGood s at ws r → Good (fixed ws) s at (fixed_items (numbers_at s at ws) r)
+    go (Ok next) q = record { valid = q.0; slice = q.1 }
+    go (Err p) q = tt
 
 string_sound : (limit : Limit) (s : List ℕ) → Octets s → (at n next : ℕ) → WordSlice s at n next → Within limit n
     → Good (opaque limit) s at (string_item (take n (drop next s)) (padded_at s next n))
 unfolding encode
 string_sound limit s o at n next w fits = go (padded_at s next n) (string_good s next n)
   where
-    go : (r : PaddedRead) → StringGood s next n r → Good (opaque limit) s at (string_item (take n (drop next s)) r)
-    go (Padded end) q =
+    go : (r : Result ℕ Unpadded) → StringGood s next n r → Good (opaque limit) s at (string_item (take n (drop next s)) r)
+    go (Ok end) q =
         record {
           valid = (rw q.long w.small, rw q.long fits, octets_take n (drop next s) (octets_drop next s o));
           slice = rw q.long (join w.slice q.slice);
         }
-    go (CutPadded p) q = tt
-    go (NonzeroPadding p) q = tt
+    go (Err (CutShort p)) q = tt
+    go (Err (NonzeroPadding p)) q = tt
 
 opaque_good : (limit : Limit) (s : List ℕ) → Octets s → (at n next : ℕ) → WordSlice s at n next
     → Good (opaque limit) s at (limited limit n at (string_item (take n (drop next s)) (padded_at s next n)))

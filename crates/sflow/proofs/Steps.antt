@@ -1,29 +1,31 @@
 -- What reading a form finds, step by step as code reads it: each law takes what an item read has answered. Assumes nothing.
 use Prim.Native.Nat.{ℕ, zero, suc, ◌+◌, ◌*◌, ◌^◌, ◌≤◌, ◌<◌}
 use native.Mathlib.Omega.{arith}
-use mathlib.Core.Path.{◌≡◌, refl, ap, ◌∙◌}
+use mathlib.Core.Path.{◌≡◌, refl, sym, ap, ◌∙◌}
 use mathlib.Core.List.{List, [], ◌∷◌}
 use mathlib.Core.Bool.{Bool, true, false, cond}
 use lib.ListN.{length, take, drop}
 use borrow.Author.Tests.{le-leb, lt-leb}
 use Rattle.xdr.specs.Numbers.{number_at, quad_number}
 use Rattle.xdr.specs.Items.{word_at, quad_at, items_at, numbers_at, padded_at}
-use Rattle.xdr.specs.declared.WordRead.TheVariants.{Word, CutWord}
-use Rattle.xdr.specs.declared.QuadRead.TheVariants.{Quad, CutQuad}
-use Rattle.xdr.specs.declared.RunRead.{RunRead}
-use Rattle.xdr.specs.declared.RunRead.TheVariants.{Run, CutRun}
 use Rattle.xdr.proofs.Octets.{number_join}
-use Rattle.xdr.proofs.Reading.{WordsRead, word_read, word_cut, word_short, quad_read, quad_short}
+use Rattle.xdr.proofs.Reading.{WordsRead, word_read, word_cut, word_short, quad_read, quad_cut, quad_short}
 use Rattle.sflow.specs.declared.Refusal.{Refusal}
 use Rattle.sflow.specs.declared.Refusal.TheVariants.{CutItem}
 use Rattle.sflow.specs.Grammar.{unlimited, at_most, Form, fixed, discriminated, opaque, list, ◌then◌, Value}
 use Rattle.sflow.specs.Decode.{Decoded, found, refused, and_then, mapped, word_item, fixed_items, string_item, entries, decode}
+use Rattle.std.specs.Prelude.{Result, Ok, Err, Option, Some, None}
+use Rattle.xdr.specs.Items.{cut}
+use Rattle.xdr.specs.declared.Cut.{Cut}
+use Rattle.xdr.specs.declared.Quad.{Quad}
+use Rattle.xdr.specs.declared.Unpadded.{Unpadded}
+use Rattle.xdr.specs.declared.Unpadded.TheVariants.{CutShort, NonzeroPadding}
 
 -- ---- fixed items
 
-fixed_cons : (x : ℕ) (ns : List ℕ) (r : RunRead) → fixed_items (x ∷ ns) r ≡ mapped (λ vs. x ∷ vs) (fixed_items ns r)
-fixed_cons x ns (Run next) = refl
-fixed_cons x ns (CutRun p) = refl
+fixed_cons : (x : ℕ) (ns : List ℕ) (r : Result ℕ Cut) → fixed_items (x ∷ ns) r ≡ mapped (λ vs. x ∷ vs) (fixed_items ns r)
+fixed_cons x ns (Ok next) = refl
+fixed_cons x ns (Err p) = refl
 
 -- an item of any width that is there, and one that is cut short
 pub fixed_step : (s : List ℕ) (at w : ℕ) (ws : List ℕ) → at + w ≤ length s
@@ -39,42 +41,42 @@ pub fixed_end : (s : List ℕ) (at : ℕ) → decode (fixed []) s at ≡ found [
 unfolding decode items_at numbers_at
 fixed_end s at = refl
 
-pub fixed_word : (s : List ℕ) (at v next : ℕ) (ws : List ℕ) → word_at s at ≡ Word v next
+pub fixed_word : (s : List ℕ) (at v next : ℕ) (ws : List ℕ) → word_at s at ≡ Ok (v, next)
     → decode (fixed (4 ∷ ws)) s at ≡ mapped (λ vs. v ∷ vs) (decode (fixed ws) s next)
 fixed_word s at v next ws e = let r = word_read s at v next e in rw (r.value_is, r.next_is) (fixed_step s at 4 ws r.room)
 
-pub fixed_word_cut : (s : List ℕ) (at p : ℕ) (ws : List ℕ) → word_at s at ≡ CutWord p → decode (fixed (4 ∷ ws)) s at ≡ refused CutItem at
-fixed_word_cut s at p ws e = fixed_stop s at 4 ws (word_short s at p e)
+pub fixed_word_cut : (s : List ℕ) (at p : ℕ) (ws : List ℕ) → word_at s at ≡ cut p → decode (fixed (4 ∷ ws)) s at ≡ refused CutItem p
+fixed_word_cut s at p ws e = fixed_stop s at 4 ws (word_short s at p e) ∙ ap (refused CutItem) (sym (word_cut s at p e))
 
-pub fixed_quad : (s : List ℕ) (at a b c d next : ℕ) (ws : List ℕ) → quad_at s at ≡ Quad a b c d next
-    → decode (fixed (16 ∷ ws)) s at ≡ mapped (λ vs. quad_number a b c d ∷ vs) (decode (fixed ws) s next)
-fixed_quad s at a b c d next ws e =
-    let r = quad_read s at a b c d next e in
-    let n : number_at s at 16 ≡ quad_number a b c d =
+pub fixed_quad : (s : List ℕ) (at : ℕ) (q : Quad) (next : ℕ) (ws : List ℕ) → quad_at s at ≡ Ok (q, next)
+    → decode (fixed (16 ∷ ws)) s at ≡ mapped (λ vs. quad_number q.a q.b q.c q.d ∷ vs) (decode (fixed ws) s next)
+fixed_quad s at q next ws e =
+    let r = quad_read s at q next e in
+    let n : number_at s at 16 ≡ quad_number q.a q.b q.c q.d =
     number_join s at 4 12 ∙ rw (number_join s (at + 4) 4 8, number_join s (at + 4 + 4) 4 4) (quad_value r) in
     rw (← n, r.next_is) (fixed_step s at 16 ws r.room)
   where
-    quad_value : WordsRead s at a b c d next → number_at s at 4 * 256 ^ 12 + (number_at s (at + 4) 4 * 256 ^ 8 + (number_at s (at + 4 + 4) 4 * 256 ^ 4 + number_at s (at + 4 + 4 + 4) 4)) ≡ quad_number a b c d
+    quad_value : WordsRead s at q next → number_at s at 4 * 256 ^ 12 + (number_at s (at + 4) 4 * 256 ^ 8 + (number_at s (at + 4 + 4) 4 * 256 ^ 4 + number_at s (at + 4 + 4 + 4) 4)) ≡ quad_number q.a q.b q.c q.d
     quad_value r =
         let e1 : at + 4 + 4 ≡ at + 8 = omega arith in
         let e2 : at + 8 + 4 ≡ at + 12 = omega arith in
-        rw (e1, e2, r.first_is, r.second_is, r.third_is, r.fourth_is) (omega arith)
+        rw (e1, e2, r.value_is) (omega arith)
 
-pub fixed_quad_cut : (s : List ℕ) (at p : ℕ) (ws : List ℕ) → quad_at s at ≡ CutQuad p → decode (fixed (16 ∷ ws)) s at ≡ refused CutItem at
-fixed_quad_cut s at p ws e = fixed_stop s at 16 ws (quad_short s at p e)
+pub fixed_quad_cut : (s : List ℕ) (at p : ℕ) (ws : List ℕ) → quad_at s at ≡ cut p → decode (fixed (16 ∷ ws)) s at ≡ refused CutItem p
+fixed_quad_cut s at p ws e = fixed_stop s at 16 ws (quad_short s at p e) ∙ ap (refused CutItem) (sym (quad_cut s at p e))
 
 -- ---- unions
 
 module _ (why : Refusal) (test : ℕ → Bool) (arms : ℕ → Form) (s : List ℕ) (at : ℕ) {A : Type 0} (view : Value (discriminated why test arms) → A) where
-  pub union_cut : (p : ℕ) → word_at s at ≡ CutWord p → mapped view (decode (discriminated why test arms) s at) ≡ refused CutItem at
+  pub union_cut : (p : ℕ) → word_at s at ≡ cut p → mapped view (decode (discriminated why test arms) s at) ≡ refused CutItem p
   unfolding decode
-  union_cut p e = rw (e, word_cut s at p e)
+  union_cut p e = rw e
 
-  pub union_bad : (v next : ℕ) → word_at s at ≡ Word v next → test v ≡ false → mapped view (decode (discriminated why test arms) s at) ≡ refused why at
+  pub union_bad : (v next : ℕ) → word_at s at ≡ Ok (v, next) → test v ≡ false → mapped view (decode (discriminated why test arms) s at) ≡ refused why at
   unfolding decode
   union_bad v next e f = rw (e, f)
 
-  pub union_arm : (v next : ℕ) → word_at s at ≡ Word v next → test v ≡ true
+  pub union_arm : (v next : ℕ) → word_at s at ≡ Ok (v, next) → test v ≡ true
       → mapped view (decode (discriminated why test arms) s at) ≡ mapped (λ w. view (v, w)) (decode (arms v) s next)
   unfolding decode
   union_arm v next e f = rw (e, f) (go (decode (arms v) s next))
@@ -93,37 +95,37 @@ union_is why test arms s at = refl
 
 -- ---- strings and lists
 
-pub string_cut : (s : List ℕ) (at : ℕ) {A : Type 0} (view : List ℕ → A) (p : ℕ) → word_at s at ≡ CutWord p
-    → mapped view (decode (opaque unlimited) s at) ≡ refused CutItem at
+pub string_cut : (s : List ℕ) (at : ℕ) {A : Type 0} (view : List ℕ → A) (p : ℕ) → word_at s at ≡ cut p
+    → mapped view (decode (opaque unlimited) s at) ≡ refused CutItem p
 unfolding decode
-string_cut s at view p e = rw (e, word_cut s at p e)
+string_cut s at view p e = rw e
 
-pub string_word : (s : List ℕ) (at : ℕ) {A : Type 0} (view : List ℕ → A) (n next : ℕ) → word_at s at ≡ Word n next
+pub string_word : (s : List ℕ) (at : ℕ) {A : Type 0} (view : List ℕ → A) (n next : ℕ) → word_at s at ≡ Ok (n, next)
     → mapped view (decode (opaque unlimited) s at) ≡ mapped view (string_item (take n (drop next s)) (padded_at s next n))
 unfolding decode
 string_word s at view n next e = rw e
 
 -- a string with a limit
 module _ (most : ℕ) (why : Refusal) (s : List ℕ) (at : ℕ) where
-  pub limited_cut : (p : ℕ) → word_at s at ≡ CutWord p → decode (opaque (at_most most why)) s at ≡ refused CutItem at
+  pub limited_cut : (p : ℕ) → word_at s at ≡ cut p → decode (opaque (at_most most why)) s at ≡ refused CutItem p
   unfolding decode
-  limited_cut p e = rw (e, word_cut s at p e)
+  limited_cut p e = rw e
 
-  pub limited_over : (n next : ℕ) → word_at s at ≡ Word n next → most < n → decode (opaque (at_most most why)) s at ≡ refused why at
+  pub limited_over : (n next : ℕ) → word_at s at ≡ Ok (n, next) → most < n → decode (opaque (at_most most why)) s at ≡ refused why at
   unfolding decode
   limited_over n next e h = rw (e, lt-leb n most h)
 
-  pub limited_word : (n next : ℕ) → word_at s at ≡ Word n next → n ≤ most
+  pub limited_word : (n next : ℕ) → word_at s at ≡ Ok (n, next) → n ≤ most
       → decode (opaque (at_most most why)) s at ≡ string_item (take n (drop next s)) (padded_at s next n)
   unfolding decode
   limited_word n next e h = rw (e, le-leb n most h)
 
-pub list_cut : (g : Form) (s : List ℕ) (at : ℕ) {A : Type 0} (view : List (Value g) → A) (p : ℕ) → word_at s at ≡ CutWord p
-    → mapped view (decode (list g) s at) ≡ refused CutItem at
+pub list_cut : (g : Form) (s : List ℕ) (at : ℕ) {A : Type 0} (view : List (Value g) → A) (p : ℕ) → word_at s at ≡ cut p
+    → mapped view (decode (list g) s at) ≡ refused CutItem p
 unfolding decode
-list_cut g s at view p e = rw (e, word_cut s at p e)
+list_cut g s at view p e = rw e
 
-pub list_word : (g : Form) (s : List ℕ) (at : ℕ) {A : Type 0} (view : List (Value g) → A) (n next : ℕ) → word_at s at ≡ Word n next
+pub list_word : (g : Form) (s : List ℕ) (at : ℕ) {A : Type 0} (view : List (Value g) → A) (n next : ℕ) → word_at s at ≡ Ok (n, next)
     → mapped view (decode (list g) s at) ≡ mapped view (entries (decode g s) n next)
 unfolding decode
 list_word g s at view n next e = rw e

@@ -11,7 +11,6 @@ use lib.Dec.{ltb}
 use borrow.Author.Tests.{ltb-false, le-ltb}
 use Rattle.xdr.specs.Numbers.{Octets, octets_of}
 use Rattle.xdr.specs.Items.{word_at, total_width}
-use Rattle.xdr.specs.declared.WordRead.TheVariants.{Word}
 use Rattle.sflow.specs.declared.Refusal.{Refusal}
 use Rattle.sflow.specs.declared.Refusal.TheVariants.{Trailing, TooLong}
 use Rattle.sflow.specs.Slices.{Slice}
@@ -24,6 +23,11 @@ use Rattle.sflow.proofs.Items.{word_rest, each_length}
 use Rattle.sflow.proofs.Steps.{limited_over}
 use Rattle.sflow.proofs.Sound.{sound}
 use Rattle.sflow.proofs.Complete.{complete}
+use Rattle.std.specs.Prelude.{Result, Ok, Err, Option, Some, None}
+use Rattle.xdr.specs.Items.{cut}
+use Rattle.xdr.specs.declared.Cut.{Cut}
+use Rattle.xdr.specs.declared.Unpadded.{Unpadded}
+use Rattle.xdr.specs.declared.Unpadded.TheVariants.{CutShort, NonzeroPadding}
 
 -- ---- every form
 
@@ -89,7 +93,7 @@ end_to_end g s (v ∷ vs) h at end p =
     )
 
 -- a string's limit is tested before its octets are looked for
-pub limit_first : (most : ℕ) (why : Refusal) (s : List ℕ) (at n next : ℕ) → word_at s at ≡ Word n next → most < n
+pub limit_first : (most : ℕ) (why : Refusal) (s : List ℕ) (at n next : ℕ) → word_at s at ≡ Ok (n, next) → most < n
     → decode (opaque (at_most most why)) s at ≡ refused why at
 limit_first most why s at n next e h = limited_over most why s at n next e h
 

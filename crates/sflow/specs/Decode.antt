@@ -1,13 +1,11 @@
 -- What reading a form finds: items from left to right, of each first that it is there and then its value.
-use Rattle.std.specs.Prelude.{ℕ, zero, suc, cond, ◌≡◌, List, [], ◌∷◌, length, take, drop, leb, eqb}
+use Rattle.std.specs.Prelude.{ℕ, zero, suc, cond, ◌≡◌, List, [], ◌∷◌, length, take, drop, leb, eqb, Result, Ok, Err}
 use Rattle.std.proofs.Math.Option.{Option, none, some}
 use Rattle.xdr.specs.Items.{word_at, items_at, numbers_at, padded_at}
-use Rattle.xdr.specs.declared.WordRead.{WordRead}
-use Rattle.xdr.specs.declared.WordRead.TheVariants.{Word, CutWord}
-use Rattle.xdr.specs.declared.RunRead.{RunRead}
-use Rattle.xdr.specs.declared.RunRead.TheVariants.{Run, CutRun}
-use Rattle.xdr.specs.declared.PaddedRead.{PaddedRead}
-use Rattle.xdr.specs.declared.PaddedRead.TheVariants.{Padded, CutPadded, NonzeroPadding}
+use Rattle.xdr.specs.declared.Cut.{Cut}
+use Rattle.xdr.specs.declared.Unpadded.{Unpadded}
+use Rattle.xdr.specs.declared.Unpadded.TheVariants.{CutShort, NonzeroPadding}
+use Rattle.sflow.specs.declared.Refused.{Refused}
 use Rattle.sflow.specs.declared.Refusal.{Refusal}
 use Rattle.sflow.specs.declared.Refusal.TheVariants.{CutItem, CutString, Padding}
 use Rattle.sflow.specs.Grammar.{Limit, unlimited, at_most, Form, fixed, discriminated, opaque, list, ◌then◌, Value}
@@ -27,20 +25,35 @@ abbrev pub mapped : {A B : Type 0} → (A → B) → Decoded A → Decoded B
 mapped f (found v next) = found (f v) next
 mapped f (refused why p) = refused why p
 
+-- a refusal with its place
+abbrev pub refused_at : Refusal → ℕ → Refused
+refused_at why p = record { why = why; at = p }
+
+-- what code answers: the value with the offset behind it, or the refusal with its place
+abbrev pub as_read : {A : Type 0} → Decoded A → Result (A × ℕ) Refused
+as_read (found v next) = Ok (v, next)
+as_read (refused why p) = Err (refused_at why p)
+
 -- ---- items
 
-abbrev pub word_item : WordRead → Decoded ℕ
-word_item (Word v next) = found v next
-word_item (CutWord p) = refused CutItem p
+abbrev pub cut_refused : Cut → Refused
+cut_refused cut = refused_at CutItem cut.at
 
-abbrev pub fixed_items : List ℕ → RunRead → Decoded (List ℕ)
-fixed_items vs (Run next) = found vs next
-fixed_items vs (CutRun p) = refused CutItem p
+abbrev pub word_item : Result (ℕ × ℕ) Cut → Decoded ℕ
+word_item (Ok r) = found r.0 r.1
+word_item (Err cut) = refused CutItem cut.at
 
-abbrev pub string_item : List ℕ → PaddedRead → Decoded (List ℕ)
-string_item xs (Padded next) = found xs next
-string_item xs (CutPadded p) = refused CutString p
-string_item xs (NonzeroPadding p) = refused Padding p
+abbrev pub fixed_items : List ℕ → Result ℕ Cut → Decoded (List ℕ)
+fixed_items vs (Ok next) = found vs next
+fixed_items vs (Err cut) = refused CutItem cut.at
+
+abbrev pub unpadded_refused : Unpadded → Refused
+unpadded_refused (CutShort p) = refused_at CutString p
+unpadded_refused (NonzeroPadding p) = refused_at Padding p
+
+abbrev pub string_item : List ℕ → Result ℕ Unpadded → Decoded (List ℕ)
+string_item xs (Ok next) = found xs next
+string_item xs (Err unpadded) = let r = unpadded_refused unpadded in refused r.why r.at
 
 -- a string of a length whose length word stands at an offset: its limit comes before its octets
 abbrev pub limited : {A : Type 0} → Limit → ℕ → ℕ → Decoded A → Decoded A

@@ -3,9 +3,12 @@
 // proved of it are in specs/ and proofs/.
 ghost use Rattle.std.specs.Prelude.{◌≡◌};
 ghost use Rattle.sflow.specs.Refusals.{refusal_number};
+ghost use Rattle.sflow.specs.Decode.{cut_refused, unpadded_refused};
+
+use xdr::{Cut, Unpadded};
 
 // Why octets are refused.
-#[derive(Clone, Copy)]
+#[derive(Clone, Copy, Debug, PartialEq, Eq)]
 pub enum Refusal {
     // a word, a hyper or an address's octets are cut short
     CutItem,
@@ -28,6 +31,41 @@ pub enum Refusal {
     Trailing,
     // a datagram of more than 65,507 octets
     TooLong,
+}
+
+// A refusal and its offset.
+#[derive(Clone, Copy, Debug, PartialEq, Eq)]
+pub struct Refused {
+    pub why: Refusal,
+    pub at: usize,
+}
+
+impl From<Cut> for Refused {
+    ghost from_gives = { λ cut r. r ≡ cut_refused cut };
+
+    fn from(cut: Cut) -> Refused {
+        Refused {
+            why: Refusal::CutItem,
+            at: cut.at,
+        }
+    }
+}
+
+impl From<Unpadded> for Refused {
+    ghost from_gives = { λ unpadded r. r ≡ unpadded_refused unpadded };
+
+    fn from(unpadded: Unpadded) -> Refused {
+        match unpadded {
+            Unpadded::CutShort(at) => Refused {
+                why: Refusal::CutString,
+                at,
+            },
+            Unpadded::NonzeroPadding(at) => Refused {
+                why: Refusal::Padding,
+                at,
+            },
+        }
+    }
 }
 
 // The number of a refusal.

@@ -102,23 +102,34 @@ quad_read s at q next e =
     let r = same_read h.1 in
     record { room = h.0; next_is = sym r.1; value_is = sym r.0 }
 
--- What the answer of a cut says: its offset is that of the read, and octets are missing.
-pub word_cut : (s : List ℕ) (at : ℕ) (c : Cut) → word_at s at ≡ Err c → (length s < at + 4) × (c ≡ record { at = at })
+-- What the answer of a cut says: its offset is that of the read.
+pub word_cut : (s : List ℕ) (at p : ℕ) → word_at s at ≡ cut p → p ≡ at
 unfolding word_at
-word_cut s at c e =
-    let h = tested_no (at + 4) (length s) _ _ _ (λ q. never (cc)) e in
-    (h.0, cc)
+word_cut s at p e = sym (same_cut (tested_no (at + 4) (length s) _ _ _ (λ q. never (cc)) e).1)
+
+pub quad_cut : (s : List ℕ) (at p : ℕ) → quad_at s at ≡ cut p → p ≡ at
+unfolding quad_at
+quad_cut s at p e = sym (same_cut (tested_no (at + 16) (length s) _ _ _ (λ q. never (cc)) e).1)
+
+-- And that octets are missing.
+pub word_short : (s : List ℕ) (at p : ℕ) → word_at s at ≡ cut p → length s < at + 4
+unfolding word_at
+word_short s at p e = (tested_no (at + 4) (length s) _ _ _ (λ q. never (cc)) e).0
+
+pub quad_short : (s : List ℕ) (at p : ℕ) → quad_at s at ≡ cut p → length s < at + 16
+unfolding quad_at
+quad_short s at p e = (tested_no (at + 16) (length s) _ _ _ (λ q. never (cc)) e).0
 
 -- A hyper is cut where its first word is.
-pub hyper_cut : (s : List ℕ) (at : ℕ) (c : Cut) → word_at s at ≡ Err c → Err c ≡ hyper_at s at
-hyper_cut s at c e =
-    let w = word_cut s at c e in
-    let short : length s < at + 8 = (let h = w.0 in omega arith) in
-    rw w.1 (sym (hyper_missing s at short))
+pub hyper_cut : (s : List ℕ) (at p : ℕ) → word_at s at ≡ cut p → cut p ≡ hyper_at s at
+hyper_cut s at p e =
+    let l = word_short s at p e in
+    let short : length s < at + 8 = omega arith in
+    rw (word_cut s at p e) (sym (hyper_missing s at short))
 
 -- Where sixteen octets are there, no word of theirs is cut.
-pub word_there : {A : Type 0} (s : List ℕ) (at : ℕ) (c : Cut) → word_at s at ≡ Err c → at + 4 ≤ length s → A
-word_there s at c e h = let w = (word_cut s at c e).0 in absurd (omega arith)
+pub word_there : {A : Type 0} (s : List ℕ) (at p : ℕ) → word_at s at ≡ cut p → at + 4 ≤ length s → A
+word_there s at p e h = let l = word_short s at p e in absurd (omega arith)
 
 -- A hyper is two words, the high one first.
 pub hyper_words : (s : List ℕ) (at high middle low next : ℕ) → word_at s at ≡ Ok (high, middle) → word_at s middle ≡ Ok (low, next)

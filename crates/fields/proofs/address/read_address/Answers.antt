@@ -1,44 +1,49 @@
 use borrow.Author.Rules.{rules}
 use mathlib.Core.Path.{sym, ap, ◌∙◌}
-use Rattle.fields.specs.Addresses.{as_address}
+use Rattle.sflow.specs.Decode.{as_read}
+use Rattle.fields.proofs.Answers.{passed_up}
 use Rattle.fields.proofs.Addresses.{address_cut, address_v4, address_v4_cut, address_v6, address_v6_cut, address_other}
 use Rattle.fields.proofs.address.read_address.Goals as goal
+use Rattle.fields.proofs.address.read_address.Goals.{in-1+in_ok-a-in-1, in-2+in_ok-octets-in-2}
+
+pub returns-in_err-kind : goal.returns-in_err-kind
+returns-in_err-kind c =
+    passed_up _ _ c.from_residual.ensures.1
+    ∙ sym (ap as_read (address_cut _ _ _ (sym c.read_word.ensures ∙ c.in_err-kind.was)))
+
+pub returns-in_err-a-in-1 : goal.returns-in_err-a-in-1
+returns-in_err-a-in-1 c =
+    passed_up _ _ c.from_residual-in_err-a-in-1.ensures.1
+    ∙ sym
+    (ap as_read
+    (address_v4_cut _ _ _ _ _ (sym c.read_word.ensures ∙ c.in_ok-kind.was) c.in-1.is
+    (sym c.read_word-in-1.ensures ∙ c.in_err-a-in-1.was)))
+
+pub returns-in_err-octets-in-2 : goal.returns-in_err-octets-in-2
+returns-in_err-octets-in-2 c =
+    passed_up _ _ c.from_residual-in_err-octets-in-2.ensures.1
+    ∙ sym
+    (ap as_read
+    (address_v6_cut _ _ _ _ _ (sym c.read_word.ensures ∙ c.in_ok-kind.was) c.in-2.is
+    (sym c.read_quad.ensures ∙ c.in_err-octets-in-2.was)))
 
 pub returns-in_default : goal.returns-in_default
-returns-in_default c = sym (ap as_address (address_cut _ _ _ (sym c.read_word.ensures ∙ c.in_default.is)))
-
-pub returns-in_default-read_word : goal.returns-in_default-read_word
-returns-in_default-read_word c =
-    sym
-    (ap as_address
-    (address_v4_cut _ _ _ _ _ (sym c.read_word.ensures ∙ c.in-Word.is) c.if-kind-eq1.true
-    (sym c.read_word-then-kind-eq1.ensures ∙ c.in_default-read_word.is)))
-
-pub returns-then-kind-eq1 : goal.returns-then-kind-eq1
-returns-then-kind-eq1 c =
-    sym
-    (ap as_address
-    (address_v4 _ _ _ _ _ _ (sym c.read_word.ensures ∙ c.in-Word.is) c.if-kind-eq1.true
-    (sym c.read_word-then-kind-eq1.ensures ∙ c.in-Word-read_word.is)))
-
-pub returns-in_default-read_quad : goal.returns-in_default-read_quad
-returns-in_default-read_quad c =
-    sym
-    (ap as_address
-    (address_v6_cut _ _ _ _ _ (sym c.read_word.ensures ∙ c.in-Word.is) c.if-kind-eq2.true
-    (sym c.read_quad.ensures ∙ c.in_default-read_quad.is)))
-
-pub returns-then-kind-eq2 : goal.returns-then-kind-eq2
-returns-then-kind-eq2 c =
-    sym
-    (ap as_address
-    (address_v6 _ _ _ _ _ _ _ _ _ (search rules) (search rules) (search rules) (search rules)
-    (sym c.read_word.ensures ∙ c.in-Word.is) c.if-kind-eq2.true
-    (sym c.read_quad.ensures ∙ c.in-Quad.is)))
+returns-in_default c =
+    sym (ap as_read (address_other _ _ _ _ (sym c.read_word.ensures ∙ c.in_ok-kind.was) (search rules) (search rules)))
 
 pub returns : goal.returns
 returns c =
-    sym
-    (ap as_address
-    (address_other _ _ _ _ (sym c.read_word.ensures ∙ c.in-Word.is)
-    c.if-kind-eq1.false c.if-kind-eq2.false))
+    elim c.match-kind.branch
+    [ in-1+in_ok-a-in-1 w ↦
+        rw w.next-is
+        (sym
+        (ap as_read
+        (address_v4 _ _ _ _ _ _ (sym c.read_word.ensures ∙ c.in_ok-kind.was) w.in-1.is
+        (sym w.read_word-in-1.ensures ∙ w.in_ok-a-in-1.was))))
+    | in-2+in_ok-octets-in-2 w ↦
+        rw w.next-is
+        (sym
+        (ap as_read
+        (address_v6 _ _ _ _ _ _ (search rules) (search rules) (search rules) (search rules)
+        (sym c.read_word.ensures ∙ c.in_ok-kind.was) w.in-2.is
+        (sym w.read_quad.ensures ∙ w.in_ok-octets-in-2.was)))) ]
