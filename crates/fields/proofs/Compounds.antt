@@ -2,14 +2,13 @@
 use Prim.Native.Nat.{ℕ, ◌+◌, ◌≤◌, ◌<◌}
 use native.Mathlib.Omega.{arith}
 use mathlib.Core.Path.{◌≡◌, refl, ap, ◌∙◌}
-use mathlib.Core.Bool.{true, false, cond}
+use mathlib.Core.Bool.{true, false}
 use mathlib.Core.List.{List}
-use lib.Dec.{leb}
 use borrow.Author.Tests.{le-leb, lt-leb}
 use Rattle.xdr.specs.Items.{word_at}
 use Rattle.xdr.proofs.Reading.{word_read}
 use Rattle.sflow.specs.declared.Refusal.{Refusal}
-use Rattle.sflow.specs.Grammar.{Form, list, ◌then◌, Value, enumeration}
+use Rattle.sflow.specs.Grammar.{Form, list, ◌then◌, Value, one_to, enumeration}
 use Rattle.sflow.specs.Decode.{Decoded, found, refused, mapped, entries, decode}
 use Rattle.sflow.proofs.Steps.{union_arm, union_bad, list_word, then_found, then_refused, entries_count}
 use Rattle.sflow.proofs.Ends.{end_is}
@@ -77,21 +76,19 @@ module _ (g : Form) (s : List ℕ) (at n first : ℕ) (e : word_at s at ≡ Ok (
 
 -- ---- enumerations
 
+-- a value from 1 on, up to the last; a value below 1; a value past the last
+pub one_to_in : (most v : ℕ) → 1 ≤ v → v ≤ most → one_to most v ≡ true
+one_to_in most v low high = rw (le-leb 1 v low, le-leb v most high)
+
+pub one_to_below : (most v : ℕ) → v < 1 → one_to most v ≡ false
+one_to_below most v h = rw (lt-leb 1 v h)
+
+pub one_to_above : (most v : ℕ) → 1 ≤ v → most < v → one_to most v ≡ false
+one_to_above most v low h = rw (le-leb 1 v low, lt-leb v most h)
+
 module _ (why : Refusal) (most : ℕ) (f : Form) (s : List ℕ) (at : ℕ) {A : Type 0} (view : Value (enumeration why most f) → A) (v next : ℕ) (e : word_at s at ≡ Ok (v, next)) where
-  -- a value from 1 on, up to the last
-  pub enumeration_in : 1 ≤ v → v ≤ most → mapped view (decode (enumeration why most f) s at) ≡ mapped (λ w. view (v, w)) (decode f s next)
-  enumeration_in low high =
-      let t : cond (leb 1 v) (leb v most) false ≡ true = rw (le-leb 1 v low, le-leb v most high) in
-      union_arm _ _ _ s at view v next e t
+  pub enumeration_in : one_to most v ≡ true → mapped view (decode (enumeration why most f) s at) ≡ mapped (λ w. view (v, w)) (decode f s next)
+  enumeration_in t = union_arm _ _ _ s at view v next e t
 
-  -- a value below 1
-  pub enumeration_below : v < 1 → mapped view (decode (enumeration why most f) s at) ≡ refused why at
-  enumeration_below h =
-      let t : cond (leb 1 v) (leb v most) false ≡ false = rw (lt-leb 1 v h) in
-      union_bad _ _ _ s at view v next e t
-
-  -- a value past the last
-  pub enumeration_above : 1 ≤ v → most < v → mapped view (decode (enumeration why most f) s at) ≡ refused why at
-  enumeration_above low h =
-      let t : cond (leb 1 v) (leb v most) false ≡ false = rw (le-leb 1 v low, lt-leb v most h) in
-      union_bad _ _ _ s at view v next e t
+  pub enumeration_out : one_to most v ≡ false → mapped view (decode (enumeration why most f) s at) ≡ refused why at
+  enumeration_out t = union_bad _ _ _ s at view v next e t

@@ -13,12 +13,11 @@ use Rattle.xdr.proofs.Reading.{tested}
 use Rattle.xdr.proofs.Runs.{items_whole}
 use Rattle.sflow.specs.declared.Refusal.{Refusal}
 use Rattle.sflow.specs.declared.Refusal.TheVariants.{CutItem}
-use Rattle.sflow.specs.Grammar.{Form, fixed, discriminated, opaque, unlimited, list, ◌then◌, Value, enumeration}
+use Rattle.sflow.specs.Grammar.{Form, fixed, discriminated, opaque, unlimited, list, ◌then◌, Value}
 use Rattle.sflow.specs.Decode.{Decoded, refused, mapped, string_item, entries, decode}
 use Rattle.sflow.specs.Datagram.{word}
 use Rattle.sflow.proofs.Steps.{fixed_step, fixed_stop, fixed_end, union_arm, union_cut, string_cut, string_word, list_cut, list_word, then_found, then_refused}
 use Rattle.fields.specs.Parts.{as_passed}
-use Rattle.fields.proofs.Compounds.{enumeration_in, enumeration_below, enumeration_above}
 use Rattle.fields.proofs.Passing.{passed_next, passed_refused, passed_mapped, passed_seen, passed_alike, passed_end, passed_step, passed_stop}
 use Rattle.std.specs.Prelude.{Result, Ok, Err}
 use Rattle.xdr.specs.Items.{cut}
@@ -84,23 +83,6 @@ module _ (why : Refusal) (test : ℕ → Bool) (arms : ℕ → Form) (s : List �
   passed_arm v next e n f t =
       passed_alike (λ v. v) (decode (discriminated why test arms) s at) (λ w. (n, w)) (decode (arms n) s next)
       (union_arm why test arms s at (λ v. v) n next (e ∙ ap (λ (m : ℕ). Ok (m, next)) f) t)
-
--- ---- enumerations
-
-module _ (why : Refusal) (most : ℕ) (f : Form) (s : List ℕ) (at v next : ℕ) (e : word_at s at ≡ Ok (v, next)) where
-  -- a value from 1 on, up to the last: what follows it is left
-  pub passed_in : 1 ≤ v → v ≤ most → as_passed (decode (enumeration why most f) s at) ≡ as_passed (decode f s next)
-  passed_in low high =
-      passed_alike (λ v. v) (decode (enumeration why most f) s at) (λ w. (v, w)) (decode f s next)
-      (enumeration_in why most f s at (λ v. v) v next e low high)
-
-  -- a value below 1
-  pub passed_below : v < 1 → as_passed (decode (enumeration why most f) s at) ≡ Err (refused_at why at)
-  passed_below h = passed_view (enumeration why most f) s at (λ v. v) (refused why at) (enumeration_below why most f s at (λ v. v) v next e h)
-
-  -- a value past the last
-  pub passed_above : 1 ≤ v → most < v → as_passed (decode (enumeration why most f) s at) ≡ Err (refused_at why at)
-  passed_above low h = passed_view (enumeration why most f) s at (λ v. v) (refused why at) (enumeration_above why most f s at (λ v. v) v next e low h)
 
 -- ---- strings and lists
 

@@ -1,20 +1,12 @@
 -- Values of packet data (RFC 3176, section 4, "Packet header data" to "Packet data").
 use Rattle.std.specs.Prelude.{ℕ, ◌+◌, Bool, true, false, cond, [], eqb}
 use Rattle.sflow.specs.Grammar.{fixed, Value}
-use Rattle.sflow.specs.Decode.{Decoded, found, refused}
 use Rattle.sflow.specs.Datagram.{sampled_header, sampled_ipv4, sampled_ipv6, packet_data_type}
 use Rattle.packet_data.specs.declared.PacketData.{PacketData}
 use Rattle.packet_data.specs.declared.PacketData.TheVariants.{Header, Ipv4, Ipv6}
-use Rattle.packet_data.specs.declared.PacketRead.{PacketRead}
-use Rattle.packet_data.specs.declared.PacketRead.TheVariants.{Found, Refused}
-use Rattle.fields.specs.declared.address.Quad.{Quad}
 use Rattle.fields.specs.Parts.{item}
 use Rattle.fields.specs.Addresses.{quad_of}
 use Rattle.fields.specs.Strings.{text_of}
-
--- four words as sixteen octets
-abbrev pub quad_of_words : ℕ → ℕ → ℕ → ℕ → Quad
-quad_of_words a b c d = record { a = a; b = b; c = c; d = d }
 
 abbrev pub header_of : ℕ → Value sampled_header → PacketData
 header_of at v = Header (record { protocol = v.0; frame_length = item v.1.0 0; header = text_of (at + 8) v.1.1 })
@@ -54,7 +46,3 @@ packet_by at false false false v = ipv4_of []
 
 abbrev pub packet_of : ℕ → Value packet_data_type → PacketData
 packet_of at v = packet_by at (eqb v.0 1) (eqb v.0 2) (eqb v.0 3) v.1
-
-abbrev pub as_packet : Decoded PacketData → PacketRead
-as_packet (found v next) = Found v next
-as_packet (refused why p) = Refused why p

@@ -1,61 +1,70 @@
-use Rattle.packet_data.proofs.Headers.{header_cut, header_zero, header_over, header_frame_cut, header_length_cut, header_long, header_found, header_refused}
-use Rattle.packet_data.specs.Packets.{as_packet}
 use mathlib.Core.Path.{sym, ap, ◌∙◌}
+use Rattle.sflow.specs.Decode.{as_read}
+use Rattle.fields.proofs.Answers.{passed_up}
+use Rattle.fields.proofs.Compounds.{one_to_in, one_to_below, one_to_above}
+use Rattle.packet_data.proofs.Headers.{header_cut, header_protocol, header_frame_cut, header_length_cut, header_long, header_found, header_refused}
 use Rattle.packet_data.proofs.read_header.Goals as goal
+use Rattle.packet_data.proofs.read_header.Goals.{then-protocol-lt1-via-then-protocol-lt1, then-protocol-lt1-via-else-protocol-lt1+then-protocol-gt13}
 
-pub returns-in_default : goal.returns-in_default
-returns-in_default c = sym (ap as_packet (header_cut _ _ _ (sym c.read_word.ensures ∙ c.in_default.is)))
+pub returns-in_err-protocol : goal.returns-in_err-protocol
+returns-in_err-protocol c =
+    passed_up _ _ c.from_residual.ensures.1
+    ∙ sym (ap as_read (header_cut _ _ _ (sym c.read_word.ensures ∙ c.in_err-protocol.was)))
 
 pub returns-then-protocol-lt1 : goal.returns-then-protocol-lt1
 returns-then-protocol-lt1 c =
     sym
-    (ap as_packet
-    (header_zero _ _ _ _ (sym c.read_word.ensures ∙ c.in-Word.is) c.if-protocol-lt1.true))
+    (ap as_read
+    (header_protocol _ _ _ _ (sym c.read_word.ensures ∙ c.in_ok-protocol.was)
+    (elim c.then-protocol-lt1.branch
+    [ then-protocol-lt1-via-then-protocol-lt1 w ↦ one_to_below _ _ w.if-protocol-lt1.true
+    | then-protocol-lt1-via-else-protocol-lt1+then-protocol-gt13 w ↦ one_to_above _ _ w.if-protocol-lt1.false w.if-protocol-gt13.true ])))
 
-pub returns-then-protocol-gt13 : goal.returns-then-protocol-gt13
-returns-then-protocol-gt13 c =
-    sym
-    (ap as_packet
-    (header_over _ _ _ _ (sym c.read_word.ensures ∙ c.in-Word.is)
-    c.if-protocol-lt1.false c.if-protocol-gt13.true))
+pub returns-in_err-frame_length : goal.returns-in_err-frame_length
+returns-in_err-frame_length c =
+    let allowed = one_to_in _ _ c.if-protocol-lt1.false c.if-protocol-gt13.false in
+    passed_up _ _ c.from_residual-in_err-frame_length.ensures.1
+    ∙ sym
+    (ap as_read
+    (header_frame_cut _ _ _ _ (sym c.read_word.ensures ∙ c.in_ok-protocol.was) allowed _
+    (sym c.read_word-2.ensures ∙ c.in_err-frame_length.was)))
 
-pub returns-in_default-read_word : goal.returns-in_default-read_word
-returns-in_default-read_word c =
-    sym
-    (ap as_packet
-    (header_frame_cut _ _ _ _ (sym c.read_word.ensures ∙ c.in-Word.is) c.if-protocol-lt1.false c.if-protocol-gt13.false _
-    (sym c.read_word-2.ensures ∙ c.in_default-read_word.is)))
-
-pub returns-in_default-read_word-2 : goal.returns-in_default-read_word-2
-returns-in_default-read_word-2 c =
-    sym
-    (ap as_packet
-    (header_length_cut _ _ _ _ (sym c.read_word.ensures ∙ c.in-Word.is) c.if-protocol-lt1.false c.if-protocol-gt13.false _ _
-    (sym c.read_word-2.ensures ∙ c.in-Word-read_word.is) _
-    (sym c.read_word-3.ensures ∙ c.in_default-read_word-2.is)))
+pub returns-in_err-length : goal.returns-in_err-length
+returns-in_err-length c =
+    let allowed = one_to_in _ _ c.if-protocol-lt1.false c.if-protocol-gt13.false in
+    passed_up _ _ c.from_residual-in_err-length.ensures.1
+    ∙ sym
+    (ap as_read
+    (header_length_cut _ _ _ _ (sym c.read_word.ensures ∙ c.in_ok-protocol.was) allowed _ _
+    (sym c.read_word-2.ensures ∙ c.in_ok-frame_length.was) _
+    (sym c.read_word-3.ensures ∙ c.in_err-length.was)))
 
 pub returns-then-length-gt256 : goal.returns-then-length-gt256
 returns-then-length-gt256 c =
+    let allowed = one_to_in _ _ c.if-protocol-lt1.false c.if-protocol-gt13.false in
     sym
-    (ap as_packet
-    (header_long _ _ _ _ (sym c.read_word.ensures ∙ c.in-Word.is) c.if-protocol-lt1.false c.if-protocol-gt13.false _ _
-    (sym c.read_word-2.ensures ∙ c.in-Word-read_word.is) _ _
-    (sym c.read_word-3.ensures ∙ c.in-Word-read_word-2.is) c.if-length-gt256.true))
+    (ap as_read
+    (header_long _ _ _ _ (sym c.read_word.ensures ∙ c.in_ok-protocol.was) allowed _ _
+    (sym c.read_word-2.ensures ∙ c.in_ok-frame_length.was) _ _
+    (sym c.read_word-3.ensures ∙ c.in_ok-length.was) c.if-length-gt256.true))
 
-pub returns-in-Next : goal.returns-in-Next
-returns-in-Next c =
-    sym
-    (ap as_packet
-    (header_found _ _ _ _ (sym c.read_word.ensures ∙ c.in-Word.is) c.if-protocol-lt1.false c.if-protocol-gt13.false _ _
-    (sym c.read_word-2.ensures ∙ c.in-Word-read_word.is) _ _ _
-    (sym c.read_word-3.ensures ∙ c.in-Word-read_word-2.is) c.if-length-gt256.false
-    (sym c.pass_octets.ensures ∙ c.in-Next.is)))
+pub returns-in_err-next : goal.returns-in_err-next
+returns-in_err-next c =
+    let allowed = one_to_in _ _ c.if-protocol-lt1.false c.if-protocol-gt13.false in
+    passed_up _ _ c.from_residual-in_err-next.ensures.1
+    ∙ sym
+    (ap as_read
+    (header_refused _ _ _ _ (sym c.read_word.ensures ∙ c.in_ok-protocol.was) allowed _ _
+    (sym c.read_word-2.ensures ∙ c.in_ok-frame_length.was) _ _ _ _
+    (sym c.read_word-3.ensures ∙ c.in_ok-length.was) c.if-length-gt256.false
+    (sym c.pass_octets.ensures ∙ c.in_err-next.was)))
 
-pub returns-in-Refused : goal.returns-in-Refused
-returns-in-Refused c =
+pub returns : goal.returns
+returns c =
+    let allowed = one_to_in _ _ c.if-protocol-lt1.false c.if-protocol-gt13.false in
     sym
-    (ap as_packet
-    (header_refused _ _ _ _ (sym c.read_word.ensures ∙ c.in-Word.is) c.if-protocol-lt1.false c.if-protocol-gt13.false _ _
-    (sym c.read_word-2.ensures ∙ c.in-Word-read_word.is) _ _ _ _
-    (sym c.read_word-3.ensures ∙ c.in-Word-read_word-2.is) c.if-length-gt256.false
-    (sym c.pass_octets.ensures ∙ c.in-Refused.is)))
+    (ap as_read
+    (header_found _ _ _ _ (sym c.read_word.ensures ∙ c.in_ok-protocol.was) allowed _ _
+    (sym c.read_word-2.ensures ∙ c.in_ok-frame_length.was) _ _ _
+    (sym c.read_word-3.ensures ∙ c.in_ok-length.was) c.if-length-gt256.false
+    (sym c.pass_octets.ensures ∙ c.in_ok-next.was)))

@@ -1,60 +1,55 @@
 use borrow.Author.Rules.{rules}
-use Rattle.packet_data.proofs.Ip.{ipv6_reads, ipv6_whole}
-use Rattle.fields.proofs.FixedItems.{no_more, word_then, quad_then, four_then, word_cut, quad_cut, four_cut}
-use Rattle.packet_data.specs.Packets.{as_packet}
 use mathlib.Core.Path.{sym, ap, ◌∙◌}
+use mathlib.Core.List.{[], ◌∷◌}
+use Rattle.sflow.specs.Decode.{found, as_read}
+use Rattle.fields.proofs.Answers.{passed_up}
+use Rattle.fields.proofs.FixedItems.{no_more, quad_then, quad_cut, words_then, words_cut}
+use Rattle.packet_data.proofs.Ip.{ipv6_reads, ipv6_whole}
 use Rattle.packet_data.proofs.read_ipv6.Goals as goal
 
-pub returns-in_default : goal.returns-in_default
-returns-in_default c = sym (ap as_packet (ipv6_reads (word_cut (sym c.read_word.ensures ∙ c.in_default.is))))
+pub returns-in_err-length : goal.returns-in_err-length
+returns-in_err-length c =
+    passed_up _ _ c.from_residual.ensures.1
+    ∙ sym (ap as_read (ipv6_reads (words_cut 2 (16 ∷ 16 ∷ 4 ∷ 4 ∷ 4 ∷ 4 ∷ []) (sym c.read_words.ensures ∙ c.in_err-length.was))))
 
-pub returns-in_default-read_word : goal.returns-in_default-read_word
-returns-in_default-read_word c =
+pub returns-in_err-src_ip : goal.returns-in_err-src_ip
+returns-in_err-src_ip c =
+    passed_up _ _ c.from_residual-in_err-src_ip.ensures.1
+    ∙ sym
+    (ap as_read
+    (ipv6_reads
+    (words_then 2 (sym c.read_words.ensures ∙ c.in_ok-length.was)
+    (quad_cut (sym c.read_quad.ensures ∙ c.in_err-src_ip.was)))))
+
+pub returns-in_err-dst_ip : goal.returns-in_err-dst_ip
+returns-in_err-dst_ip c =
+    passed_up _ _ c.from_residual-in_err-dst_ip.ensures.1
+    ∙ sym
+    (ap as_read
+    (ipv6_reads
+    (words_then 2 (sym c.read_words.ensures ∙ c.in_ok-length.was)
+    (quad_then (sym c.read_quad.ensures ∙ c.in_ok-src_ip.was)
+    (quad_cut (sym c.read_quad-2.ensures ∙ c.in_err-dst_ip.was))))))
+
+pub returns-in_err-src_port : goal.returns-in_err-src_port
+returns-in_err-src_port c =
+    passed_up _ _ c.from_residual-in_err-src_port.ensures.1
+    ∙ sym
+    (ap as_read
+    (ipv6_reads
+    (words_then 2 (sym c.read_words.ensures ∙ c.in_ok-length.was)
+    (quad_then (sym c.read_quad.ensures ∙ c.in_ok-src_ip.was)
+    (quad_then (sym c.read_quad-2.ensures ∙ c.in_ok-dst_ip.was)
+    (words_cut 4 [] (sym c.read_words-2.ensures ∙ c.in_err-src_port.was)))))))
+
+pub returns : goal.returns
+returns c =
     sym
-    (ap as_packet
+    (ap as_read
     (ipv6_reads
-    (word_then (sym c.read_word.ensures ∙ c.in-Word.is)
-    (word_cut (sym c.read_word-2.ensures ∙ c.in_default-read_word.is)))))
-
-pub returns-in_default-read_quad : goal.returns-in_default-read_quad
-returns-in_default-read_quad c =
-    sym
-    (ap as_packet
-    (ipv6_reads
-    (word_then (sym c.read_word.ensures ∙ c.in-Word.is)
-    (word_then (sym c.read_word-2.ensures ∙ c.in-Word-read_word.is)
-    (quad_cut (sym c.read_quad.ensures ∙ c.in_default-read_quad.is))))))
-
-pub returns-in_default-read_quad-2 : goal.returns-in_default-read_quad-2
-returns-in_default-read_quad-2 c =
-    sym
-    (ap as_packet
-    (ipv6_reads
-    (word_then (sym c.read_word.ensures ∙ c.in-Word.is)
-    (word_then (sym c.read_word-2.ensures ∙ c.in-Word-read_word.is)
-    (quad_then (sym c.read_quad.ensures ∙ c.in-Quad.is)
-    (quad_cut (sym c.read_quad-2.ensures ∙ c.in_default-read_quad-2.is)))))))
-
-pub returns-in-CutFour : goal.returns-in-CutFour
-returns-in-CutFour c =
-    sym
-    (ap as_packet
-    (ipv6_reads
-    (word_then (sym c.read_word.ensures ∙ c.in-Word.is)
-    (word_then (sym c.read_word-2.ensures ∙ c.in-Word-read_word.is)
-    (quad_then (sym c.read_quad.ensures ∙ c.in-Quad.is)
-    (quad_then (sym c.read_quad-2.ensures ∙ c.in-Quad-read_quad.is) (four_cut (sym c.read_four.ensures ∙ c.in-CutFour.is))))))))
-
-pub returns-in-Four : goal.returns-in-Four
-returns-in-Four c =
-    let items =
-    (ipv6_reads
-    (word_then (sym c.read_word.ensures ∙ c.in-Word.is)
-    (word_then (sym c.read_word-2.ensures ∙ c.in-Word-read_word.is)
-    (quad_then (sym c.read_quad.ensures ∙ c.in-Quad.is)
-    (quad_then (sym c.read_quad-2.ensures ∙ c.in-Quad-read_quad.is)
-    (four_then (sym c.read_four.ensures ∙ c.in-Four.is) no_more)))))) in
-    let source = c.in-Quad.known_told-in-Quad-1-own.given in
-    let destination = c.in-Quad-read_quad.known_told-in-Quad-read_quad-2-1-own.given in
-    rw (c.quad.ensures, c.quad-in-Four.ensures)
-    (sym (ap as_packet (items ∙ ipv6_whole _ _ _ _ _ _ _ _ _ _ _ _ _ _ _ (search (rules, source)) (search (rules, destination)))))
+    (words_then 2 (sym c.read_words.ensures ∙ c.in_ok-length.was)
+    (quad_then (sym c.read_quad.ensures ∙ c.in_ok-src_ip.was)
+    (quad_then (sym c.read_quad-2.ensures ∙ c.in_ok-dst_ip.was)
+    (words_then 4 (sym c.read_words-2.ensures ∙ c.in_ok-src_port.was) no_more))))
+    ∙ ap (λ x. found x c.in_ok-src_port.next)
+    (ipv6_whole c.in_ok-length.field-0-0 c.in_ok-src_port.field-0-0 c.in_ok-src_ip.src_ip c.in_ok-dst_ip.dst_ip (search rules) (search rules) (search rules) (search rules))))
