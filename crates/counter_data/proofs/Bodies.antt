@@ -8,7 +8,6 @@ use mathlib.Core.Bool.{true, false}
 use lib.ListN.{length}
 use borrow.Author.Tests.{ne_eqb}
 use Rattle.xdr.specs.Items.{word_at, total_width}
-use Rattle.xdr.specs.declared.WordRead.TheVariants.{Word, CutWord}
 use Rattle.xdr.proofs.Reading.{word_read}
 use Rattle.sflow.specs.declared.Refusal.{Refusal}
 use Rattle.sflow.specs.declared.Refusal.TheVariants.{CutItem, CountersVersion}
@@ -16,12 +15,15 @@ use Rattle.sflow.specs.Grammar.{Form, fixed, listed, chosen}
 use Rattle.sflow.specs.Decode.{found, refused, mapped, decode}
 use Rattle.sflow.specs.Datagram.{counters_versions, counters_type}
 use Rattle.sflow.proofs.Steps.{union_arm, union_bad, union_cut, fixed_end}
-use Rattle.fields.specs.declared.runs.Passed.{Passed}
-use Rattle.fields.specs.declared.runs.Passed.TheVariants.{Next, Refused}
 use Rattle.fields.specs.Parts.{as_passed}
-use Rattle.fields.proofs.Passing.{passed_next, passed_refused, passed_alike}
+use Rattle.fields.proofs.Passing.{passed_next, passed_refused}
 use Rattle.fields.proofs.Forms.{passed_whole}
 use Rattle.counter_data.specs.CounterBodies.{counter_body_of}
+use Rattle.std.specs.Prelude.{Result, Ok, Err}
+use Rattle.xdr.specs.Items.{cut}
+use Rattle.std.specs.Prelude.{Result, Ok, Err}
+use Rattle.sflow.specs.declared.Refused.{Refused}
+use Rattle.sflow.specs.Decode.{refused_at}
 
 -- ---- versions
 
@@ -79,48 +81,44 @@ pub size_of : (v n : ℕ) → v ≡ n → total_width (widths_of n) ≡ total_wi
 size_of v n e = ap (λ (m : ℕ). total_width (widths_of m)) (sym e)
 
 -- a run of the widths of the version n passes over the counters of the version v, which is n
-pub body_run : (s : List ℕ) (at v n : ℕ) (r : Passed) → v ≡ n → r ≡ as_passed (decode (form_of n) s at) → r ≡ as_passed (decode (form_of v) s at)
+pub body_run : (s : List ℕ) (at v n : ℕ) (r : Result ℕ Refused) → v ≡ n → r ≡ as_passed (decode (form_of n) s at) → r ≡ as_passed (decode (form_of v) s at)
 body_run s at v n r e f = f ∙ ap (λ (m : ℕ). as_passed (decode (form_of m) s at)) (sym e)
 
 -- counters whose octets are all there
 pub body_there : (s : List ℕ) (at size v : ℕ) → size ≡ total_width (widths_of v) → at ≤ length s → size ≤ length s - at
-    → Next (at + size) ≡ as_passed (decode (form_of v) s at)
+    → Ok (at + size) ≡ as_passed (decode (form_of v) s at)
 body_there s at size v z h k =
     let room : at + total_width (widths_of v) ≤ length s = omega (arith, z) in
     rw z (sym (passed_whole s at (widths_of v) room))
 
 -- no counters, nothing to pass over
-pub body_none : (s : List ℕ) (at : ℕ) (ws : List ℕ) → ws ≡ [] → Next at ≡ as_passed (decode (fixed ws) s at)
+pub body_none : (s : List ℕ) (at : ℕ) (ws : List ℕ) → ws ≡ [] → Ok at ≡ as_passed (decode (fixed ws) s at)
 body_none s at ws e = rw (e, fixed_end)
 
 -- ---- counters
 
 -- the version is cut short
-pub body_cut : (s : List ℕ) (at p : ℕ) → word_at s at ≡ CutWord p → mapped (counter_body_of at) (decode counters_type s at) ≡ refused CutItem at
+pub body_cut : (s : List ℕ) (at p : ℕ) → word_at s at ≡ cut p → mapped (counter_body_of at) (decode counters_type s at) ≡ refused CutItem p
 body_cut s at p e = union_cut _ _ _ s at (counter_body_of at) p e
 
 -- no version
-pub body_bad : (s : List ℕ) (at v first : ℕ) → word_at s at ≡ Word v first → listed counters_versions v ≡ false
+pub body_bad : (s : List ℕ) (at v first : ℕ) → word_at s at ≡ Ok (v, first) → listed counters_versions v ≡ false
     → mapped (counter_body_of at) (decode counters_type s at) ≡ refused CountersVersion at
 body_bad s at v first e h = union_bad _ _ _ s at (counter_body_of at) v first e h
 
-module _ (s : List ℕ) (at v first : ℕ) (e : word_at s at ≡ Word v first) (h : listed counters_versions v ≡ true) where
+module _ (s : List ℕ) (at v first : ℕ) (e : word_at s at ≡ Ok (v, first)) (h : listed counters_versions v ≡ true) where
   -- behind the version
   body_arm : mapped (counter_body_of at) (decode counters_type s at) ≡ mapped (λ vs. counter_body_of at (v, vs)) (decode (form_of v) s first)
   body_arm = union_arm CountersVersion (listed counters_versions) form_of s at (counter_body_of at) v first e h
 
-  -- the counters are left to pass over
-  pub body_passed : as_passed (decode counters_type s at) ≡ as_passed (decode (form_of v) s first)
-  body_passed = passed_alike (counter_body_of at) (decode counters_type s at) (λ vs. counter_body_of at (v, vs)) (decode (form_of v) s first) body_arm
-
   -- counters that are all there
-  pub body_found : (next : ℕ) → as_passed (decode (form_of v) s first) ≡ Next next
+  pub body_found : (next : ℕ) → as_passed (decode (form_of v) s first) ≡ Ok next
       → mapped (counter_body_of at) (decode counters_type s at) ≡ found (record { version = v; at = first }) next
   body_found next f =
       let r = passed_next (decode (form_of v) s first) next f in
       body_arm ∙ rw (r.1, (word_read s at v first e).next_is)
 
   -- counters that are cut short
-  pub body_refused : (why : Refusal) (p : ℕ) → as_passed (decode (form_of v) s first) ≡ Refused why p
+  pub body_refused : (why : Refusal) (p : ℕ) → as_passed (decode (form_of v) s first) ≡ Err (refused_at why p)
       → mapped (counter_body_of at) (decode counters_type s at) ≡ refused why p
   body_refused why p f = body_arm ∙ rw (passed_refused (decode (form_of v) s first) why p f)

@@ -4,16 +4,10 @@ use Rattle.sflow.specs.Grammar.{Value}
 use Rattle.sflow.specs.Decode.{Decoded, found, refused}
 use Rattle.sflow.specs.Datagram.{counters_type}
 use Rattle.counter_data.specs.declared.CounterBody.{CounterBody}
-use Rattle.counter_data.specs.declared.CounterBodyRead.{CounterBodyRead}
-use Rattle.counter_data.specs.declared.CounterBodyRead.TheVariants.{Found, Refused}
 
 -- the version, and the offset of the first counter, behind the version word
 abbrev pub counter_body_of : ℕ → Value counters_type → CounterBody
 counter_body_of at v = record { version = v.0; at = at + 4 }
-
-abbrev pub as_counter_body : Decoded CounterBody → CounterBodyRead
-as_counter_body (found v next) = Found v next
-as_counter_body (refused why p) = Refused why p
 
 -- the counters that are found, in the RFC's order; none of a body that is refused
 abbrev pub counters_found : Decoded (Value counters_type) → List ℕ

@@ -3,26 +3,18 @@
 ghost use Rattle.std.specs.Prelude.{◌≡◌, []};
 ghost use Rattle.xdr.specs.Items.{total_width};
 ghost use Rattle.sflow.specs.Grammar.{fixed, chosen};
-ghost use Rattle.sflow.specs.Decode.{decode, mapped};
+ghost use Rattle.sflow.specs.Decode.{decode, mapped, as_read};
 ghost use Rattle.sflow.specs.Datagram.{counters_versions, counters_type};
 ghost use Rattle.fields.specs.Parts.{as_passed};
-ghost use Rattle.counter_data.specs.CounterBodies.{counter_body_of, as_counter_body};
+ghost use Rattle.counter_data.specs.CounterBodies.{counter_body_of};
 
-use fields::runs::Passed;
-use sflow::Refusal;
-use xdr::WordRead;
+use sflow::{Refusal, Refused};
 
 // A counters version, 1 to 7, and the offset of the first counter.
 #[derive(Clone, Copy)]
 pub struct CounterBody {
     pub version: u32,
     pub at: usize,
-}
-
-#[derive(Clone, Copy)]
-pub enum CounterBodyRead {
-    Found(CounterBody, usize),
-    Refused(Refusal, usize),
 }
 
 // The widths of the counters of each version; FDDI and WAN counters are those of every interface.
@@ -55,7 +47,7 @@ pub fn body_size(version: u32) -> usize
 }
 
 // The counters of a version by their widths, for the place where they are cut short.
-fn pass_each(s: &[u8], at: usize, version: u32) -> Passed
+fn pass_each(s: &[u8], at: usize, version: u32) -> Result<usize, Refused>
     ensures { result ≡ as_passed (decode (fixed (chosen [] counters_versions version)) s.now at) }
 {
     match version {
@@ -64,55 +56,40 @@ fn pass_each(s: &[u8], at: usize, version: u32) -> Passed
         3 => fields::runs::pass_run(s, at, &TOKENRING_WIDTHS),
         5 => fields::runs::pass_run(s, at, &VG_WIDTHS),
         7 => fields::runs::pass_run(s, at, &VLAN_WIDTHS),
-        _ => Passed::Next(at),
+        _ => Ok(at),
     }
 }
 
 // The counters of a version, a run of free items: one comparison tells where all are there.
-fn pass_body(s: &[u8], at: usize, version: u32) -> Passed
+fn pass_body(s: &[u8], at: usize, version: u32) -> Result<usize, Refused>
     ensures { result ≡ as_passed (decode (fixed (chosen [] counters_versions version)) s.now at) }
 {
     let size = body_size(version);
-    if s.len() < at {
+    if s.len() < at || s.len() - at < size {
         return pass_each(s, at, version);
     }
-    if s.len() - at < size {
-        return pass_each(s, at, version);
-    }
-    Passed::Next(at + size)
+    Ok(at + size)
 }
 
 // Counters at their version word.
-pub fn read_counter_body(s: &[u8], at: usize) -> CounterBodyRead
-    ensures { result ≡ as_counter_body (mapped (counter_body_of at) (decode counters_type s.now at)) }
+pub fn read_counter_body(s: &[u8], at: usize) -> Result<(CounterBody, usize), Refused>
+    ensures { result ≡ as_read (mapped (counter_body_of at) (decode counters_type s.now at)) }
 {
-    let WordRead::Word(version, first) = xdr::read_word(s, at) else {
-        return CounterBodyRead::Refused(Refusal::CutItem, at);
-    };
-    if version < 1 {
-        return CounterBodyRead::Refused(Refusal::CountersVersion, at);
+    let (version, first) = xdr::read_word(s, at)?;
+    if version < 1 || 7 < version {
+        return Err(Refused {
+            why: Refusal::CountersVersion,
+            at,
+        });
     }
-    if 7 < version {
-        return CounterBodyRead::Refused(Refusal::CountersVersion, at);
-    }
-    match pass_body(s, first, version) {
-        Passed::Next(next) => CounterBodyRead::Found(CounterBody { version, at: first }, next),
-        Passed::Refused(why, p) => CounterBodyRead::Refused(why, p),
-    }
+    let next = pass_body(s, first, version)?;
+    Ok((CounterBody { version, at: first }, next))
 }
 
 // Counters at their version word that are not handed out.
-pub fn pass_counters(s: &[u8], at: usize) -> Passed
+pub fn pass_counters(s: &[u8], at: usize) -> Result<usize, Refused>
     ensures { result ≡ as_passed (decode counters_type s.now at) }
 {
-    let WordRead::Word(version, first) = xdr::read_word(s, at) else {
-        return Passed::Refused(Refusal::CutItem, at);
-    };
-    if version < 1 {
-        return Passed::Refused(Refusal::CountersVersion, at);
-    }
-    if 7 < version {
-        return Passed::Refused(Refusal::CountersVersion, at);
-    }
-    pass_body(s, first, version)
+    let (_, next) = read_counter_body(s, at)?;
+    Ok(next)
 }
