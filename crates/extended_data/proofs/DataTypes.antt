@@ -5,8 +5,8 @@ use mathlib.Core.Bool.{false, ◌||◌}
 use mathlib.Core.List.{List}
 use lib.Dec.{eqb}
 use borrow.Author.Tests.{ne_eqb}
+use Rattle.std.specs.Prelude.{Ok}
 use Rattle.xdr.specs.Items.{word_at}
-use Rattle.xdr.specs.declared.WordRead.TheVariants.{Word}
 use Rattle.xdr.proofs.Reading.{word_read}
 use Rattle.sflow.specs.declared.Refusal.TheVariants.{ExtendedDataType}
 use Rattle.sflow.specs.Decode.{refused, mapped, decode}
@@ -14,10 +14,10 @@ use Rattle.sflow.specs.Datagram.{extended_switch, extended_router, extended_gate
 use Rattle.sflow.proofs.Steps.{union_arm, union_bad}
 use Rattle.extended_data.specs.ExtendedData.{switch_of, router_of, gateway_of, user_of, url_of, extended_of}
 
-module _ (s : List ℕ) (at kind next : ℕ) (e : word_at s at ≡ Word kind next) where
+module _ (s : List ℕ) (at kind next : ℕ) (e : word_at s at ≡ Ok (kind, next)) where
   -- the type word, of a type that is known
-  typed : (k : ℕ) → kind ≡ k → word_at s at ≡ Word k next
-  typed k f = e ∙ ap (λ (n : ℕ). Word n next) f
+  typed : (k : ℕ) → kind ≡ k → word_at s at ≡ Ok (k, next)
+  typed k f = e ∙ ap (λ (n : ℕ). Ok (n, next)) f
 
   -- the offset behind the type word
   behind : next ≡ at + 4

@@ -1,4 +1,4 @@
-pub mod Switches
+pub mod Outside
 pub mod Routers
 pub mod Segments
 pub mod Gateways

@@ -1,16 +1,11 @@
 -- Values of extended data (RFC 3176, section 4, "Extended data types").
 use Rattle.std.specs.Prelude.{ℕ, ◌+◌, Bool, true, false, cond, [], eqb}
 use Rattle.sflow.specs.Grammar.{fixed, opaque, unlimited, list, ◌then◌, Value}
-use Rattle.sflow.specs.Decode.{Decoded, found, refused}
 use Rattle.sflow.specs.Datagram.{word, extended_switch, extended_router, as_path_type, extended_gateway, extended_user, extended_url, extended_data_type}
 use Rattle.fields.specs.declared.words.Entries.{Entries}
 use Rattle.extended_data.specs.declared.Segment.{Segment}
-use Rattle.extended_data.specs.declared.SegmentRead.{SegmentRead}
-use Rattle.extended_data.specs.declared.SegmentRead.TheVariants.{Found as FoundSegment, Refused as RefusedSegment}
 use Rattle.extended_data.specs.declared.Extended.{Extended}
 use Rattle.extended_data.specs.declared.Extended.TheVariants.{IsSwitch, IsRouter, IsGateway, IsUser, IsUrl}
-use Rattle.extended_data.specs.declared.ExtendedRead.{ExtendedRead}
-use Rattle.extended_data.specs.declared.ExtendedRead.TheVariants.{Found, Refused}
 use Rattle.fields.specs.Parts.{item, size, entries_at}
 use Rattle.fields.specs.Addresses.{address_of}
 use Rattle.fields.specs.Strings.{text_of}
@@ -23,10 +18,6 @@ router_of v = IsRouter (record { nexthop = address_of v.0; src_mask = item v.1 0
 
 abbrev pub segment_of : ℕ → Value as_path_type → Segment
 segment_of at v = record { kind = v.0; numbers = entries_at (at + 8) v.1 }
-
-abbrev pub as_segment : Decoded Segment → SegmentRead
-as_segment (found v next) = FoundSegment v next
-as_segment (refused why p) = RefusedSegment why p
 
 -- a gateway's words and path, and its communities and local preference at an offset
 abbrev pub gateway_with : ℕ → ℕ → ℕ → Entries → ℕ → Value (list word then word) → Extended
@@ -64,7 +55,3 @@ extended_by at false false false false false v = switch_of []
 
 abbrev pub extended_of : ℕ → Value extended_data_type → Extended
 extended_of at v = extended_by at (eqb v.0 1) (eqb v.0 2) (eqb v.0 3) (eqb v.0 4) (eqb v.0 5) v.1
-
-abbrev pub as_extended : Decoded Extended → ExtendedRead
-as_extended (found v next) = Found v next
-as_extended (refused why p) = Refused why p

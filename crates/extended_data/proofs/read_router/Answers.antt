@@ -1,34 +1,25 @@
 use mathlib.Core.Path.{sym, ap, ◌∙◌}
-use Rattle.extended_data.specs.ExtendedData.{as_extended}
-use Rattle.fields.proofs.FixedItems.{no_more, word_then, word_cut, reads_found}
+use Rattle.sflow.specs.Decode.{as_read}
+use Rattle.fields.proofs.Answers.{passed_up, read_told, read_refused}
 use Rattle.extended_data.proofs.Routers.{router_masks, router_refused}
 use Rattle.extended_data.proofs.read_router.Goals as goal
 
-pub returns-in_default : goal.returns-in_default
-returns-in_default c =
-    sym
-    (ap as_extended
-    (router_masks _ _ _ _ _
-    (sym c.read_address.ensures ∙ c.in-Found.is)
-    (reads_found (word_cut (sym c.read_word.ensures ∙ c.in_default.is)))))
+pub returns-in_err-nexthop : goal.returns-in_err-nexthop
+returns-in_err-nexthop c =
+    passed_up _ _ c.from_residual.ensures.1
+    ∙ sym (ap as_read (router_refused _ _ _ (sym c.read_address.ensures ∙ c.in_err-nexthop.was)))
 
-pub returns-in_default-read_word : goal.returns-in_default-read_word
-returns-in_default-read_word c =
-    sym
-    (ap as_extended
-    (router_masks _ _ _ _ _ (sym c.read_address.ensures ∙ c.in-Found.is)
-    (reads_found
-    (word_then (sym c.read_word.ensures ∙ c.in-Word.is)
-    (word_cut (sym c.read_word-in-Found.ensures ∙ c.in_default-read_word.is))))))
+pub returns-in_err-src_mask : goal.returns-in_err-src_mask
+returns-in_err-src_mask c =
+    passed_up _ _ c.from_residual-in_err-src_mask.ensures.1
+    ∙ sym
+    (ap as_read
+    (router_masks _ _ _ _ _ (sym c.read_address.ensures ∙ c.in_ok-nexthop.was)
+    (read_refused _ _ (sym c.read_words.ensures ∙ c.in_err-src_mask.was))))
 
-pub returns-in-Refused : goal.returns-in-Refused
-returns-in-Refused c = sym (ap as_extended (router_refused _ _ _ _ (sym c.read_address.ensures ∙ c.in-Refused.is)))
-
-pub returns-in-Word-read_word : goal.returns-in-Word-read_word
-returns-in-Word-read_word c =
+pub returns : goal.returns
+returns c =
     sym
-    (ap as_extended
-    (router_masks _ _ _ _ _ (sym c.read_address.ensures ∙ c.in-Found.is)
-    (reads_found
-    (word_then (sym c.read_word.ensures ∙ c.in-Word.is)
-    (word_then (sym c.read_word-in-Found.ensures ∙ c.in-Word-read_word.is) no_more)))))
+    (ap as_read
+    (router_masks _ _ _ _ _ (sym c.read_address.ensures ∙ c.in_ok-nexthop.was)
+    (read_told _ _ _ (sym c.read_words.ensures ∙ c.in_ok-src_mask.was))))

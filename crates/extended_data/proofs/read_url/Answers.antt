@@ -1,38 +1,32 @@
+use borrow.Author.Rules.{rules}
 use mathlib.Core.Path.{sym, ap, ◌∙◌}
+use Rattle.sflow.specs.Decode.{as_read}
 use Rattle.sflow.proofs.Steps.{union_cut}
-use Rattle.extended_data.specs.ExtendedData.{as_extended}
-use Rattle.fields.proofs.Compounds.{enumeration_below, enumeration_above}
+use Rattle.fields.proofs.Answers.{passed_up, read_told, read_refused}
+use Rattle.extended_data.proofs.Outside.{enumeration_outside}
 use Rattle.extended_data.proofs.Users.{url_string}
 use Rattle.extended_data.proofs.read_url.Goals as goal
 
-pub returns-in_default : goal.returns-in_default
-returns-in_default c = sym (ap as_extended (union_cut _ _ _ _ _ _ _ (sym c.read_word.ensures ∙ c.in_default.is)))
+pub returns-in_err-direction : goal.returns-in_err-direction
+returns-in_err-direction c =
+    passed_up _ _ c.from_residual.ensures.1
+    ∙ sym (ap as_read (union_cut _ _ _ _ _ _ _ (sym c.read_word.ensures ∙ c.in_err-direction.was)))
 
-pub returns-then-direction-lt1 : goal.returns-then-direction-lt1
-returns-then-direction-lt1 c =
-    sym
-    (ap as_extended
-    (enumeration_below _ _ _ _ _ _ _ _ (sym c.read_word.ensures ∙ c.in-Word.is)
-    c.if-direction-lt1.true))
+pub returns-then-not-contains : goal.returns-then-not-contains
+returns-then-not-contains c =
+    sym (ap as_read (enumeration_outside _ _ _ _ _ _ _ _ (sym c.read_word.ensures ∙ c.in_ok-direction.was) (λ low high. search rules)))
 
-pub returns-then-direction-gt2 : goal.returns-then-direction-gt2
-returns-then-direction-gt2 c =
-    sym
-    (ap as_extended
-    (enumeration_above _ _ _ _ _ _ _ _
-    (sym c.read_word.ensures ∙ c.in-Word.is) c.if-direction-lt1.false
-    c.if-direction-gt2.true))
+pub returns-in_err-url : goal.returns-in_err-url
+returns-in_err-url c =
+    passed_up _ _ c.from_residual-in_err-url.ensures.1
+    ∙ sym
+    (ap as_read
+    (url_string _ _ _ _ _ (sym c.read_word.ensures ∙ c.in_ok-direction.was) (search rules) (search rules)
+    (read_refused _ _ (sym c.read_string.ensures ∙ c.in_err-url.was))))
 
-pub returns-in-Refused : goal.returns-in-Refused
-returns-in-Refused c =
+pub returns : goal.returns
+returns c =
     sym
-    (ap as_extended
-    (url_string _ _ _ _ _ (sym c.read_word.ensures ∙ c.in-Word.is) c.if-direction-lt1.false c.if-direction-gt2.false
-    (sym c.read_string.ensures ∙ c.in-Refused.is)))
-
-pub returns-in-Found : goal.returns-in-Found
-returns-in-Found c =
-    sym
-    (ap as_extended
-    (url_string _ _ _ _ _ (sym c.read_word.ensures ∙ c.in-Word.is) c.if-direction-lt1.false c.if-direction-gt2.false
-    (sym c.read_string.ensures ∙ c.in-Found.is)))
+    (ap as_read
+    (url_string _ _ _ _ _ (sym c.read_word.ensures ∙ c.in_ok-direction.was) (search rules) (search rules)
+    (read_told _ _ _ (sym c.read_string.ensures ∙ c.in_ok-url.was))))
