@@ -76,7 +76,7 @@ pub fn read_counter_body(s: &[u8], at: usize) -> Result<(CounterBody, usize), Re
     ensures { result ≡ as_read (mapped (counter_body_of at) (decode counters_type s.now at)) }
 {
     let (version, first) = xdr::read_word(s, at)?;
-    if version < 1 || 7 < version {
+    if !(1..=7).contains(&version) {
         return Err(Refused {
             why: Refusal::CountersVersion,
             at,

@@ -1,4 +1,3 @@
-pub mod Outside
 pub mod Routers
 pub mod Segments
 pub mod Gateways

@@ -1,5 +1,5 @@
 -- What reading the names of users, and a URL, finds. Assumes nothing.
-use Prim.Native.Nat.{ℕ, ◌≤◌}
+use Prim.Native.Nat.{ℕ}
 use mathlib.Core.Path.{◌≡◌, sym, ◌∙◌}
 use mathlib.Core.List.{List}
 use Rattle.std.specs.Prelude.{Ok, Err}
@@ -17,6 +17,8 @@ use Rattle.fields.proofs.Compounds.{wrapped, then_seen, then_unseen, enumeration
 use Rattle.extended_data.specs.declared.Extended.{Extended}
 use Rattle.extended_data.specs.declared.Extended.TheVariants.{IsUser, IsUrl}
 use Rattle.extended_data.specs.ExtendedData.{user_of, url_of}
+use Rattle.sflow.specs.Grammar.{one_to}
+use mathlib.Core.Bool.{true}
 
 -- a user's two names, and a URL of a direction
 abbrev pub user_with : Text → Text → Extended
@@ -40,9 +42,9 @@ user_second s at src next d e f =
     ∙ wrapped (user_with src) (text_of next) (decode (opaque unlimited) s next) d f
 
 -- the direction was read: what the string answers is the answer
-pub url_string : (s : List ℕ) (at direction start : ℕ) (d : Decoded Text) → word_at s at ≡ Ok (direction, start) → 1 ≤ direction → direction ≤ 2
+pub url_string : (s : List ℕ) (at direction start : ℕ) (d : Decoded Text) → word_at s at ≡ Ok (direction, start) → one_to 2 direction ≡ true
     → mapped (text_of start) (decode (opaque unlimited) s start) ≡ d → mapped (url_of at) (decode extended_url s at) ≡ mapped (url_with direction) d
-url_string s at direction start d e low high f =
-    enumeration_in UrlDirection 2 (opaque unlimited) s at (url_of at) direction start e low high
+url_string s at direction start d e t f =
+    enumeration_in UrlDirection 2 (opaque unlimited) s at (url_of at) direction start e t
     ∙ rw (sym (word_read s at direction start e).next_is)
     (wrapped (url_with direction) (text_of start) (decode (opaque unlimited) s start) d f)

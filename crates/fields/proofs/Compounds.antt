@@ -1,12 +1,13 @@
 -- What is found, seen in another way: views of views, of one form behind another, of lists and of enumerations. Assumes nothing.
-use Prim.Native.Nat.{ℕ, ◌+◌, ◌≤◌, ◌<◌}
+use Prim.Native.Nat.{ℕ, ◌+◌, ◌≤◌}
 use native.Mathlib.Omega.{arith}
 use mathlib.Core.Path.{◌≡◌, refl, ap, ◌∙◌}
 use mathlib.Core.Bool.{true, false}
 use mathlib.Core.List.{List}
 use borrow.Author.Tests.{le-leb, lt-leb}
 use Rattle.xdr.specs.Items.{word_at}
-use Rattle.xdr.proofs.Reading.{word_read}
+use mathlib.Core.Logic.{⊎_elim}
+use Rattle.xdr.proofs.Reading.{word_read, tested}
 use Rattle.sflow.specs.declared.Refusal.{Refusal}
 use Rattle.sflow.specs.Grammar.{Form, list, ◌then◌, Value, one_to, enumeration}
 use Rattle.sflow.specs.Decode.{Decoded, found, refused, mapped, entries, decode}
@@ -76,15 +77,16 @@ module _ (g : Form) (s : List ℕ) (at n first : ℕ) (e : word_at s at ≡ Ok (
 
 -- ---- enumerations
 
--- a value from 1 on, up to the last; a value below 1; a value past the last
+-- a value from 1 on, up to the last, and any other
 pub one_to_in : (most v : ℕ) → 1 ≤ v → v ≤ most → one_to most v ≡ true
 one_to_in most v low high = rw (le-leb 1 v low, le-leb v most high)
 
-pub one_to_below : (most v : ℕ) → v < 1 → one_to most v ≡ false
-one_to_below most v h = rw (lt-leb 1 v h)
-
-pub one_to_above : (most v : ℕ) → 1 ≤ v → most < v → one_to most v ≡ false
-one_to_above most v low h = rw (le-leb 1 v low, lt-leb v most h)
+pub one_to_out : (most v : ℕ) → (1 ≤ v → v ≤ most → ⊥) → one_to most v ≡ false
+one_to_out most v out =
+    ⊎_elim
+    (λ low. ⊎_elim (λ high. absurd (out low.0 high.0)) (λ high. rw (le-leb 1 v low.0, lt-leb v most high.0)) (tested v most true false _ refl))
+    (λ low. rw (lt-leb 1 v low.0))
+    (tested 1 v true false _ refl)
 
 module _ (why : Refusal) (most : ℕ) (f : Form) (s : List ℕ) (at : ℕ) {A : Type 0} (view : Value (enumeration why most f) → A) (v next : ℕ) (e : word_at s at ≡ Ok (v, next)) where
   pub enumeration_in : one_to most v ≡ true → mapped view (decode (enumeration why most f) s at) ≡ mapped (λ w. view (v, w)) (decode f s next)

@@ -52,7 +52,7 @@ fn read_header(s: &[u8], at: usize) -> Result<(PacketData, usize), Refused>
     ensures { result ≡ as_read (mapped (header_of at) (decode sampled_header s.now at)) }
 {
     let (protocol, frame_at) = xdr::read_word(s, at)?;
-    if protocol < 1 || 13 < protocol {
+    if !(1..=13).contains(&protocol) {
         return Err(Refused {
             why: Refusal::HeaderProtocol,
             at,
