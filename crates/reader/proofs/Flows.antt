@@ -3,7 +3,6 @@ use Prim.Native.Nat.{ℕ, ◌+◌}
 use mathlib.Core.Path.{◌≡◌, ◌∙◌}
 use mathlib.Core.List.{List}
 use Rattle.xdr.specs.Items.{word_at}
-use Rattle.xdr.specs.declared.WordRead.TheVariants.{Word}
 use Rattle.xdr.proofs.Reading.{word_read}
 use Rattle.sflow.specs.declared.Refusal.{Refusal}
 use Rattle.sflow.specs.Grammar.{fixed, list, ◌then◌}
@@ -11,32 +10,30 @@ use Rattle.sflow.specs.Decode.{Decoded, found, refused, mapped, entries, decode}
 use Rattle.sflow.specs.Datagram.{flow_words, packet_data_type, extended_data_type, flow_sample}
 use Rattle.sflow.proofs.Steps.{list_word, then_found, then_refused, entries_count}
 use Rattle.sflow.proofs.Ends.{end_is}
-use Rattle.fields.specs.declared.runs.Passed.TheVariants.{Next, Refused}
 use Rattle.packet_data.specs.declared.PacketData.{PacketData}
-use Rattle.packet_data.specs.declared.PacketRead.TheVariants.{Found as FoundPacket, Refused as RefusedPacket}
 use Rattle.reader.specs.declared.sample.FlowWords.{FlowWords}
-use Rattle.reader.specs.declared.sample.FlowWordsRead.TheVariants.{Found as FoundWords, Refused as RefusedWords}
 use Rattle.fields.specs.Parts.{as_passed, size}
-use Rattle.packet_data.specs.Packets.{packet_of, as_packet}
-use Rattle.reader.specs.Samples.{flow_words_of, as_flow_words, flow_with, flow_of}
+use Rattle.packet_data.specs.Packets.{packet_of}
+use Rattle.reader.specs.Samples.{flow_words_of, flow_with, flow_of}
 use Rattle.fields.proofs.Passing.{passed_next, passed_refused}
-use Rattle.reader.proofs.Answers.{flow_words_told}
-use Rattle.packet_data.proofs.Answers.{packet_told}
+use Rattle.fields.proofs.Answers.{read_told, read_refused}
 use Rattle.fields.proofs.Compounds.{Seen, seen, seen_refused}
 use Rattle.fields.proofs.FixedItems.{Reads, reads_found}
 use Rattle.fields.proofs.FixedItems.{fixed_next}
-
--- ---- the words
-
--- the words as they were read one by one
-pub flow_words_reads : {s : List ℕ} {at : ℕ} {d : Decoded (List ℕ)} → Reads s at flow_words d
-    → mapped flow_words_of (decode (fixed flow_words) s at) ≡ mapped flow_words_of d
-flow_words_reads r = rw (reads_found r)
+use Rattle.std.specs.Prelude.{Result, Ok, Err, Option, Some, None}
+use Rattle.xdr.specs.Items.{cut}
+use Rattle.xdr.specs.declared.Cut.{Cut}
+use Rattle.xdr.specs.declared.Unpadded.{Unpadded}
+use Rattle.xdr.specs.declared.Unpadded.TheVariants.{CutShort, NonzeroPadding}
+use Rattle.std.specs.Prelude.{Result, Ok, Err}
+use Rattle.sflow.specs.declared.Refused.{Refused}
+use Rattle.sflow.specs.Decode.{refused_at}
+use Rattle.sflow.specs.Decode.{refused_at, as_read}
 
 -- ---- the list of extended data
 
 module _ (s : List ℕ) (at : ℕ) (words : FlowWords) (packet : PacketData) (n first : ℕ) where
-  pub list_found : (next : ℕ) → word_at s at ≡ Word n first → as_passed (entries (decode extended_data_type s) n first) ≡ Next next
+  pub list_found : (next : ℕ) → word_at s at ≡ Ok (n, first) → as_passed (entries (decode extended_data_type s) n first) ≡ Ok next
       → mapped (flow_with words packet at) (decode (list extended_data_type) s at)
       ≡ found (record { words = words; packet_data = packet; extended_data = record { at = first; count = n } }) next
   list_found next e f =
@@ -45,7 +42,7 @@ module _ (s : List ℕ) (at : ℕ) (words : FlowWords) (packet : PacketData) (n 
       list_word extended_data_type s at (flow_with words packet at) n first e
       ∙ rw (p.1, entries_count (decode extended_data_type s) n first p.0 next p.1, w.next_is)
 
-  pub list_refused : (why : Refusal) (p : ℕ) → word_at s at ≡ Word n first → as_passed (entries (decode extended_data_type s) n first) ≡ Refused why p
+  pub list_refused : (why : Refusal) (p : ℕ) → word_at s at ≡ Ok (n, first) → as_passed (entries (decode extended_data_type s) n first) ≡ Err (refused_at why p)
       → mapped (flow_with words packet at) (decode (list extended_data_type) s at) ≡ refused why p
   list_refused why p e f =
       list_word extended_data_type s at (flow_with words packet at) n first e
@@ -54,33 +51,33 @@ module _ (s : List ℕ) (at : ℕ) (words : FlowWords) (packet : PacketData) (n 
 -- ---- a flow sample
 
 module _ (s : List ℕ) (at : ℕ) where
-  pub flow_words_refused : (why : Refusal) (p : ℕ) → as_flow_words (mapped flow_words_of (decode (fixed flow_words) s at)) ≡ RefusedWords why p
+  pub flow_words_refused : (why : Refusal) (p : ℕ) → as_read (mapped flow_words_of (decode (fixed flow_words) s at)) ≡ Err (refused_at why p)
       → mapped (flow_of at) (decode flow_sample s at) ≡ refused why p
   flow_words_refused why p e =
       then_refused (fixed flow_words) (packet_data_type then list extended_data_type) s at (flow_of at) why p
-      (seen_refused flow_words_of _ why p (flow_words_told _ _ e))
+      (seen_refused flow_words_of _ why p (read_refused _ _ e))
 
   -- behind the words
-  behind_words : (words : FlowWords) (next : ℕ) → as_flow_words (mapped flow_words_of (decode (fixed flow_words) s at)) ≡ FoundWords words next
+  behind_words : (words : FlowWords) (next : ℕ) → as_read (mapped flow_words_of (decode (fixed flow_words) s at)) ≡ Ok (words, next)
       → Seen flow_words_of (decode (fixed flow_words) s at) words next
-  behind_words words next e = seen flow_words_of _ words next (flow_words_told _ _ e)
+  behind_words words next e = seen flow_words_of _ words next (read_told _ _ _ e)
 
   pub flow_packet_refused : (words : FlowWords) (next : ℕ) (why : Refusal) (p : ℕ)
-      → as_flow_words (mapped flow_words_of (decode (fixed flow_words) s at)) ≡ FoundWords words next
-      → as_packet (mapped (packet_of next) (decode packet_data_type s next)) ≡ RefusedPacket why p
+      → as_read (mapped flow_words_of (decode (fixed flow_words) s at)) ≡ Ok (words, next)
+      → as_read (mapped (packet_of next) (decode packet_data_type s next)) ≡ Err (refused_at why p)
       → mapped (flow_of at) (decode flow_sample s at) ≡ refused why p
   flow_packet_refused words next why p e f =
       let b = behind_words words next e in
       then_found (fixed flow_words) (packet_data_type then list extended_data_type) s at (flow_of at) b.value next b.found_is
-      ∙ then_refused packet_data_type (list extended_data_type) s next _ why p (seen_refused (packet_of next) _ why p (packet_told _ _ f))
+      ∙ then_refused packet_data_type (list extended_data_type) s next _ why p (seen_refused (packet_of next) _ why p (read_refused _ _ f))
 
   pub flow_list : (words : FlowWords) (next : ℕ) (packet : PacketData) (end : ℕ)
-      → as_flow_words (mapped flow_words_of (decode (fixed flow_words) s at)) ≡ FoundWords words next
-      → as_packet (mapped (packet_of next) (decode packet_data_type s next)) ≡ FoundPacket packet end
+      → as_read (mapped flow_words_of (decode (fixed flow_words) s at)) ≡ Ok (words, next)
+      → as_read (mapped (packet_of next) (decode packet_data_type s next)) ≡ Ok (packet, end)
       → mapped (flow_of at) (decode flow_sample s at) ≡ mapped (flow_with words packet end) (decode (list extended_data_type) s end)
   flow_list words next packet end e f =
       let b = behind_words words next e in
-      let q = seen (packet_of next) _ packet end (packet_told _ _ f) in
+      let q = seen (packet_of next) _ packet end (read_told _ _ _ f) in
       let n : next ≡ at + 28 = fixed_next s flow_words at b.value next b.found_is in
       let m : end ≡ next + size packet_data_type q.value = end_is packet_data_type s next q.value end q.found_is in
       then_found (fixed flow_words) (packet_data_type then list extended_data_type) s at (flow_of at) b.value next b.found_is

@@ -1,4 +1,3 @@
-pub mod Answers
 pub mod Flows
 pub mod CounterSamples
 pub mod SampleKinds

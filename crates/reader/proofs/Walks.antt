@@ -15,33 +15,35 @@ use Rattle.sflow.specs.Datagram.{address, sample_type, sample_datagram, agent_ad
 use Rattle.sflow.specs.Reading.{read_datagram}
 use Rattle.sflow.proofs.Ends.{end_is}
 use Rattle.sflow.proofs.Theorems.{samples_end_to_end}
-use Rattle.fields.specs.declared.runs.Passed.{Passed}
-use Rattle.fields.specs.declared.runs.Passed.TheVariants.{Next, Refused}
 use Rattle.reader.specs.declared.datagram.Head.{Head}
-use Rattle.reader.specs.declared.datagram.Step.TheVariants.{End, Refused as Stopped}
+use Rattle.std.specs.Prelude.{None}
 use Rattle.fields.specs.Parts.{size, as_passed}
 use Rattle.reader.specs.Samples.{sample_of}
 use Rattle.reader.specs.Datagrams.{head_at, datagram_of, step_at, walk, walk_on, samples_from}
 use Rattle.reader.proofs.Wholes.{read_samples_refused, read_samples}
+use Rattle.std.specs.Prelude.{Result, Ok, Err}
+use Rattle.sflow.specs.declared.Refused.{Refused}
+use Rattle.sflow.specs.Decode.{refused_at}
+use Rattle.sflow.specs.Decode.{refused_at, as_read}
 
 -- ---- one step
 
 -- behind the last sample
-abbrev lastly : List ℕ → ℕ → Passed
-lastly s at = cond (ltb at (length s)) (Refused Trailing at) (Next at)
+abbrev lastly : List ℕ → ℕ → Result ℕ Refused
+lastly s at = cond (ltb at (length s)) (Err (refused_at Trailing at)) (Ok at)
 
 -- how a walk ends that first passes samples
-abbrev then_ends : List ℕ → Decoded (List (Value sample_type)) → Passed
+abbrev then_ends : List ℕ → Decoded (List (Value sample_type)) → Result ℕ Refused
 then_ends s (found vs end) = lastly s end
-then_ends s (refused why p) = Refused why p
+then_ends s (refused why p) = Err (refused_at why p)
 
 walk_end : (s : List ℕ) (at : ℕ) → walk s 0 at ≡ record { met = []; ending = lastly s at }
 unfolding walk step_at
 walk_end s at = go (ltb at (length s))
   where
     go : (b : Bool)
-        → walk_on at (cond b (Stopped Trailing at) End) (λ next. record { met = []; ending = Next next })
-        ≡ record { met = []; ending = cond b (Refused Trailing at) (Next at) }
+        → walk_on at (cond b (Err (refused_at Trailing at)) (Ok None)) (λ next. record { met = []; ending = Ok next })
+        ≡ record { met = []; ending = cond b (Err (refused_at Trailing at)) (Ok at) }
     go true = refl
     go false = refl
 
@@ -52,7 +54,7 @@ unfolding walk step_at
 walk_step s left at v next e = rw (eqb-suc-zero left, e)
 
 walk_stop : (s : List ℕ) (left at : ℕ) (why : Refusal) (p : ℕ) → decode sample_type s at ≡ refused why p
-    → walk s (suc left) at ≡ record { met = []; ending = Refused why p }
+    → walk s (suc left) at ≡ record { met = []; ending = Err (refused_at why p) }
 unfolding walk step_at
 walk_stop s left at why p e = rw (eqb-suc-zero left, e)
 
@@ -80,7 +82,7 @@ pub walk_reads : (s : List ℕ) (h : Head) (next : ℕ) → head_at s ≡ found 
     → (walk s h.samples.count h.samples.at).ending ≡ as_passed (read_datagram s)
 walk_reads s h next e = walk_ends s h.samples.count h.samples.at ∙ go (entries (decode sample_type s) h.samples.count h.samples.at) refl
   where
-    last : (end : ℕ) (v : Value sample_datagram) (b : Bool) → cond b (Refused Trailing end) (Next end) ≡ as_passed (cond b (refused Trailing end) (found v end))
+    last : (end : ℕ) (v : Value sample_datagram) (b : Bool) → cond b (Err (refused_at Trailing end)) (Ok end) ≡ as_passed (cond b (refused Trailing end) (found v end))
     last end v true = refl
     last end v false = refl
 

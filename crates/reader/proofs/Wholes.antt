@@ -9,26 +9,30 @@ use lib.Seq.{get_or-take}
 use lib.Dec.{ltb, eqb}
 use borrow.Author.Tests.{ltb-false, le-ltb, lt-ltb}
 use Rattle.xdr.specs.Items.{word_at}
-use Rattle.xdr.specs.declared.WordRead.{WordRead}
-use Rattle.xdr.specs.declared.WordRead.TheVariants.{Word, CutWord}
 use Rattle.sflow.specs.declared.Refusal.{Refusal}
 use Rattle.sflow.specs.declared.Refusal.TheVariants.{Version, Trailing, TooLong}
 use Rattle.sflow.specs.Grammar.{Form, fixed, list, ◌then◌, Value}
 use Rattle.sflow.specs.Decode.{Decoded, found, refused, and_then, mapped, word_item, entries, decode}
 use Rattle.sflow.specs.Datagram.{int, address, sample_type, sample_datagram_v4, sample_datagram}
 use Rattle.sflow.specs.Reading.{longest, read_datagram}
-use Rattle.xdr.proofs.Reading.{word_read, word_cut as word-cut-at}
+use Rattle.xdr.proofs.Reading.{word_read}
 use Rattle.sflow.proofs.Steps.{union_is, then_is, list_is, fixed_word_cut, entries_count}
-use Rattle.fields.specs.declared.runs.Passed.TheVariants.{Next, Refused}
 use Rattle.reader.specs.declared.datagram.Head.{Head}
 use Rattle.sflow.proofs.Ends.{end_is}
 use Rattle.fields.specs.Parts.{item, size, as_passed}
-use Rattle.reader.specs.declared.datagram.HeadRead.{HeadRead}
-use Rattle.reader.specs.declared.datagram.HeadRead.TheVariants.{Found as FoundHead, Refused as RefusedHead}
 use Rattle.reader.specs.Datagrams.{head_words, datagram_head, head_of, head_at, datagram_of, as_head}
-use Rattle.fields.proofs.Passing.{passed_next, passed_refused}
+use Rattle.fields.proofs.Passing.{passed_next, passed_refused, refusing}
 use Rattle.fields.proofs.Compounds.{seen, seen_refused}
 use Rattle.fields.proofs.FixedItems.{no_more, word_then, word_cut, reads_found, fixed_next}
+use Rattle.std.specs.Prelude.{Result, Ok, Err, Option, Some, None}
+use Rattle.xdr.specs.Items.{cut}
+use Rattle.xdr.specs.declared.Cut.{Cut}
+use Rattle.xdr.specs.declared.Unpadded.{Unpadded}
+use Rattle.xdr.specs.declared.Unpadded.TheVariants.{CutShort, NonzeroPadding}
+use Rattle.std.specs.Prelude.{Result, Ok, Err}
+use Rattle.sflow.specs.declared.Refused.{Refused}
+use Rattle.sflow.specs.Decode.{refused_at}
+use Rattle.sflow.specs.Decode.{refused_at, as_read}
 
 -- a datagram's value, of its head's and its samples'
 abbrev joined : Value datagram_head → List (Value sample_type) → Value sample_datagram
@@ -46,18 +50,17 @@ module _ (e : Form) (s : List ℕ) (at : ℕ) where
       decode (fixed (int ∷ int ∷ []) then list e) s at
       ≡ (and_then (decode (fixed head_words) s at) λ ws next. mapped (λ es. (take 2 ws, es)) (entries (decode e s) (item ws 2) next))
 
-  split_3 : (a p1 b p2 : ℕ) → word_at s at ≡ Word a p1 → word_at s p1 ≡ Word b p2 → (r : WordRead) → word_at s p2 ≡ r → Split
+  split_3 : (a p1 b p2 : ℕ) → word_at s at ≡ Ok (a, p1) → word_at s p1 ≡ Ok (b, p2) → (r : Result (ℕ × ℕ) Cut) → word_at s p2 ≡ r → Split
   unfolding Split
-  split_3 a p1 b p2 ea eb (CutWord p) ec =
+  split_3 a p1 b p2 ea eb (Err c) ec =
       rw (
         then_is (fixed (int ∷ int ∷ [])) (list e) s at,
         reads_found (word_then ea (word_then eb no_more)),
         list_is e s p2,
         ec,
         reads_found (word_then ea (word_then eb (word_cut {ws = []} ec))),
-        word-cut-at s p2 p ec,
       )
-  split_3 a p1 b p2 ea eb (Word c p3) ec =
+  split_3 a p1 b p2 ea eb (Ok (c, p3)) ec =
       rw (
         then_is (fixed (int ∷ int ∷ [])) (list e) s at,
         reads_found (word_then ea (word_then eb no_more)),
@@ -67,21 +70,21 @@ module _ (e : Form) (s : List ℕ) (at : ℕ) where
       )
       (paired (a ∷ b ∷ []) (entries (decode e s) c p3))
 
-  split_2 : (a p1 : ℕ) → word_at s at ≡ Word a p1 → (r : WordRead) → word_at s p1 ≡ r → Split
+  split_2 : (a p1 : ℕ) → word_at s at ≡ Ok (a, p1) → (r : Result (ℕ × ℕ) Cut) → word_at s p1 ≡ r → Split
   unfolding Split
-  split_2 a p1 ea (CutWord p) eb =
+  split_2 a p1 ea (Err c) eb =
       rw (
         then_is (fixed (int ∷ int ∷ [])) (list e) s at,
         reads_found (word_then ea (word_cut {ws = []} eb)),
         reads_found (word_then ea (word_cut {ws = int ∷ []} eb)),
       )
-  split_2 a p1 ea (Word b p2) eb = split_3 a p1 b p2 ea eb (word_at s p2) refl
+  split_2 a p1 ea (Ok (b, p2)) eb = split_3 a p1 b p2 ea eb (word_at s p2) refl
 
-  split_1 : (r : WordRead) → word_at s at ≡ r → Split
+  split_1 : (r : Result (ℕ × ℕ) Cut) → word_at s at ≡ r → Split
   unfolding Split
-  split_1 (CutWord p) ea =
-      rw (then_is (fixed (int ∷ int ∷ [])) (list e) s at, fixed_word_cut s at p (int ∷ []) ea, fixed_word_cut s at p (int ∷ int ∷ []) ea)
-  split_1 (Word a p1) ea = split_2 a p1 ea (word_at s p1) refl
+  split_1 (Err c) ea =
+      rw (then_is (fixed (int ∷ int ∷ [])) (list e) s at, fixed_word_cut s at c.at (int ∷ []) ea, fixed_word_cut s at c.at (int ∷ int ∷ []) ea)
+  split_1 (Ok (a, p1)) ea = split_2 a p1 ea (word_at s p1) refl
 
 list_split : (e : Form) (s : List ℕ) (at : ℕ)
     → decode (fixed (int ∷ int ∷ []) then list e) s at
@@ -137,12 +140,12 @@ whole_split s =
     test v next true = arms v next
     test v next false = refl
 
-    go : (r : WordRead)
+    go : (r : Result (ℕ × ℕ) Cut)
         → and_then {B = Value sample_datagram} (word_item r) (λ v next. cond (eqb v 4) (tagged v (decode sample_datagram_v4 s next)) (refused Version 0))
         ≡ and_then (and_then {B = Value datagram_head} (word_item r) (λ v next. cond (eqb v 4) (tagged v (decode (address then fixed head_words) s next)) (refused Version 0)))
         λ h p. mapped (joined h) (samples_after s h p)
-    go (Word v next) = test v next (eqb v 4)
-    go (CutWord p) = refl
+    go (Ok (v, next)) = test v next (eqb v 4)
+    go (Err c) = refl
 
 -- ---- where the samples begin
 
@@ -172,11 +175,11 @@ head_ends s = rw (union_is Version (λ v. eqb v 4) (λ v. address then fixed hea
     test v place w true = rw (then_is address (fixed head_words) s place) (agent v place w (decode address s place) refl)
     test v place w false = tt
 
-    go : (r : WordRead) → word_at s 0 ≡ r
+    go : (r : Result (ℕ × ℕ) Cut) → word_at s 0 ≡ r
         → HeadEnds (and_then {B = Value datagram_head} (word_item r)
         (λ v next. cond (eqb v 4) (tagged v (decode (address then fixed head_words) s next)) (refused Version 0)))
-    go (Word v place) e = let w = word_read s 0 v place e in test v place w.next_is (eqb v 4)
-    go (CutWord p) e = tt
+    go (Ok (v, place)) e = let w = word_read s 0 v place e in test v place w.next_is (eqb v 4)
+    go (Err c) e = tt
 
 -- ---- a whole datagram, by what its head and its samples are
 
@@ -224,7 +227,7 @@ module _ (s : List ℕ) (h : Head) (next : ℕ) (e : head_at s ≡ found h next)
       let n : item v.1.1 2 ≡ h.samples.count = ap (λ (x : Head). x.samples.count) seen in
       whole_split s ∙ rw (r, n, f)
 
-  pub read_samples_refused : (why : Refusal) (p : ℕ) → as_passed (entries (decode sample_type s) h.samples.count h.samples.at) ≡ Refused why p
+  pub read_samples_refused : (why : Refusal) (p : ℕ) → as_passed (entries (decode sample_type s) h.samples.count h.samples.at) ≡ Err (refused_at why p)
       → read_datagram s ≡ refused why p
   read_samples_refused why p f =
       let b = head_is s h next e in
@@ -237,7 +240,7 @@ module _ (s : List ℕ) (h : Head) (next : ℕ) (e : head_at s ≡ found h next)
     pub read : read_datagram s ≡ ended s value end
     pub seen : datagram_of value ≡ h
 
-  pub read_samples : (end : ℕ) → as_passed (entries (decode sample_type s) h.samples.count h.samples.at) ≡ Next end → Samples end
+  pub read_samples : (end : ℕ) → as_passed (entries (decode sample_type s) h.samples.count h.samples.at) ≡ Ok end → Samples end
   read_samples end f =
       let b = head_is s h next e in
       let q = passed_next (entries (decode sample_type s) h.samples.count h.samples.at) end f in
@@ -251,38 +254,39 @@ module _ (s : List ℕ) (h : Head) (next : ℕ) (e : head_at s ≡ found h next)
         seen = rw (first, second, many ∙ sym same) b.seen;
       }
 
-  pub read_trailing : (end : ℕ) → as_passed (entries (decode sample_type s) h.samples.count h.samples.at) ≡ Next end → end < length s
+  pub read_trailing : (end : ℕ) → as_passed (entries (decode sample_type s) h.samples.count h.samples.at) ≡ Ok end → end < length s
       → mapped datagram_of (read_datagram s) ≡ refused Trailing end
   read_trailing end f l = let r = read_samples end f in rw (r.read, lt-ltb end (length s) l)
 
-  pub read_whole : (end : ℕ) → as_passed (entries (decode sample_type s) h.samples.count h.samples.at) ≡ Next end → length s ≤ end
+  pub read_whole : (end : ℕ) → as_passed (entries (decode sample_type s) h.samples.count h.samples.at) ≡ Ok end → length s ≤ end
       → mapped datagram_of (read_datagram s) ≡ found h end
   read_whole end f l = let r = read_samples end f in rw (r.read, le-ltb end (length s) l, r.seen)
 
 -- ---- the answer of reading, by the answers about its head and its samples
 
-abbrev of_head : HeadRead → Decoded Head → Type 0
-of_head (FoundHead h) d = (next : ℕ) × (d ≡ found h next)
-of_head (RefusedHead why p) d = d ≡ refused why p
+-- the answer of a head tells that it was found
+head_found : (d : Decoded Head) (h : Head) → as_head d ≡ Ok h → (next : ℕ) × (d ≡ found h next)
+head_found (found g next) h e = let f : g ≡ h = cc in (next, ap (λ (h : Head). found h next) f)
+head_found (refused why p) h e = let z : ◌≡◌ {A = ℕ} 0 1 = cc in absurd (omega arith)
 
--- the answer about a head tells what was found
-head_told : (d : Decoded Head) (r : HeadRead) → as_head d ≡ r → of_head r d
-head_told (found h next) r e = rw (← e) (next, refl)
-head_told (refused why p) r e = rw (← e) refl
+-- the answer of a refusal tells that it was refused
+head_refused : (d : Decoded Head) (r : Refused) → as_head d ≡ Err r → d ≡ refused r.why r.at
+head_refused (found g next) r e = let z : ◌≡◌ {A = ℕ} 0 1 = cc in absurd (omega arith)
+head_refused (refused why p) r e = let s : refused_at why p ≡ r = cc in ap (refusing Head) s
 
 module _ (s : List ℕ) where
-  pub answer_head_refused : (why : Refusal) (p : ℕ) → as_head (head_at s) ≡ RefusedHead why p → as_head (mapped datagram_of (read_datagram s)) ≡ RefusedHead why p
-  answer_head_refused why p e = rw (read_head_refused s why p (head_told (head_at s) _ e))
+  pub answer_head_refused : (r : Refused) → as_head (head_at s) ≡ Err r → as_head (mapped datagram_of (read_datagram s)) ≡ Err r
+  answer_head_refused r e = rw (read_head_refused s r.why r.at (head_refused (head_at s) r e)) refl
 
-  module _ (h : Head) (e : as_head (head_at s) ≡ FoundHead h) where
-    pub answer_samples_refused : (why : Refusal) (p : ℕ) → as_passed (entries (decode sample_type s) h.samples.count h.samples.at) ≡ Refused why p
-        → as_head (mapped datagram_of (read_datagram s)) ≡ RefusedHead why p
-    answer_samples_refused why p f = let t = head_told (head_at s) (FoundHead h) e in rw (read_samples_refused s h t.0 t.1 why p f)
+  module _ (h : Head) (e : as_head (head_at s) ≡ Ok h) where
+    pub answer_samples_refused : (r : Refused) → as_passed (entries (decode sample_type s) h.samples.count h.samples.at) ≡ Err r
+        → as_head (mapped datagram_of (read_datagram s)) ≡ Err r
+    answer_samples_refused r f = let t = head_found (head_at s) h e in rw (read_samples_refused s h t.0 t.1 r.why r.at f) refl
 
-    pub answer_trailing : (end : ℕ) → as_passed (entries (decode sample_type s) h.samples.count h.samples.at) ≡ Next end → end < length s
-        → as_head (mapped datagram_of (read_datagram s)) ≡ RefusedHead Trailing end
-    answer_trailing end f l = let t = head_told (head_at s) (FoundHead h) e in rw (read_trailing s h t.0 t.1 end f l)
+    pub answer_trailing : (end : ℕ) → as_passed (entries (decode sample_type s) h.samples.count h.samples.at) ≡ Ok end → end < length s
+        → as_head (mapped datagram_of (read_datagram s)) ≡ Err (refused_at Trailing end)
+    answer_trailing end f l = let t = head_found (head_at s) h e in rw (read_trailing s h t.0 t.1 end f l)
 
-    pub answer_whole : (end : ℕ) → as_passed (entries (decode sample_type s) h.samples.count h.samples.at) ≡ Next end → length s ≤ end
-        → as_head (mapped datagram_of (read_datagram s)) ≡ FoundHead h
-    answer_whole end f l = let t = head_told (head_at s) (FoundHead h) e in rw (read_whole s h t.0 t.1 end f l)
+    pub answer_whole : (end : ℕ) → as_passed (entries (decode sample_type s) h.samples.count h.samples.at) ≡ Ok end → length s ≤ end
+        → as_head (mapped datagram_of (read_datagram s)) ≡ Ok h
+    answer_whole end f l = let t = head_found (head_at s) h e in rw (read_whole s h t.0 t.1 end f l)

@@ -1,22 +1,16 @@
 -- Values of samples (RFC 3176, section 4, "Format of a single flow sample" to "Format of a sample datagram").
-use Rattle.std.specs.Prelude.{ℕ, ◌+◌, ◌-◌, Bool, true, false, cond, List, [], eqb}
+use Rattle.std.specs.Prelude.{ℕ, ◌+◌, ◌-◌, Bool, true, false, cond, List, [], eqb, Result, Ok, Err}
 use Rattle.sflow.specs.Grammar.{fixed, list, Value}
-use Rattle.sflow.specs.Decode.{Decoded, found, refused}
+use Rattle.sflow.specs.declared.Refused.{Refused}
+use Rattle.sflow.specs.Decode.{Decoded, found, refused, refused_at}
 use Rattle.sflow.specs.Datagram.{packet_data_type, extended_data_type, flow_sample, counters_sample, sample_type}
 use Rattle.packet_data.specs.declared.PacketData.{PacketData}
 use Rattle.reader.specs.declared.sample.FlowWords.{FlowWords}
-use Rattle.reader.specs.declared.sample.FlowWordsRead.{FlowWordsRead}
-use Rattle.reader.specs.declared.sample.FlowWordsRead.TheVariants.{Found as FoundWords, Refused as RefusedWords}
 use Rattle.reader.specs.declared.sample.FlowSample.{FlowSample}
-use Rattle.reader.specs.declared.sample.FlowRead.{FlowRead}
-use Rattle.reader.specs.declared.sample.FlowRead.TheVariants.{Found as FoundFlow, Refused as RefusedFlow}
 use Rattle.reader.specs.declared.sample.CountersSample.{CountersSample}
-use Rattle.reader.specs.declared.sample.CountersRead.{CountersRead}
-use Rattle.reader.specs.declared.sample.CountersRead.TheVariants.{Found as FoundCounters, Refused as RefusedCounters}
+use Rattle.reader.specs.declared.sample.Sample.{Sample}
 use Rattle.reader.specs.declared.sample.SampleValues.{SampleValues}
 use Rattle.reader.specs.declared.sample.SampleValues.TheVariants.{Flow, Counters}
-use Rattle.reader.specs.declared.sample.SampleRead.{SampleRead}
-use Rattle.reader.specs.declared.sample.SampleRead.TheVariants.{Found, Refused}
 use Rattle.fields.specs.Parts.{item, size, entries_at}
 use Rattle.packet_data.specs.Packets.{packet_of}
 use Rattle.counter_data.specs.CounterBodies.{counter_body_of}
@@ -33,20 +27,12 @@ flow_words_of v =
       output = item v 6;
     }
 
-abbrev pub as_flow_words : Decoded FlowWords → FlowWordsRead
-as_flow_words (found v next) = FoundWords v next
-as_flow_words (refused why p) = RefusedWords why p
-
 -- a flow sample's words and packet data, and its list of extended data at an offset
 abbrev pub flow_with : FlowWords → PacketData → ℕ → Value (list extended_data_type) → FlowSample
 flow_with words packet at v = record { words = words; packet_data = packet; extended_data = entries_at (at + 4) v }
 
 abbrev pub flow_of : ℕ → Value flow_sample → FlowSample
 flow_of at v = flow_with (flow_words_of v.0) (packet_of (at + 28) v.1.0) (at + 28 + size packet_data_type v.1.0) v.1.1
-
-abbrev pub as_flow : Decoded FlowSample → FlowRead
-as_flow (found v next) = FoundFlow v next
-as_flow (refused why p) = RefusedFlow why p
 
 abbrev pub counters_of : ℕ → Value counters_sample → CountersSample
 counters_of at v =
@@ -56,10 +42,6 @@ counters_of at v =
       sampling_interval = item v.0 2;
       counters = counter_body_of (at + 12) v.1;
     }
-
-abbrev pub as_counters : Decoded CountersSample → CountersRead
-as_counters (found v next) = FoundCounters v next
-as_counters (refused why p) = RefusedCounters why p
 
 -- a sample at its type word; the last clause is for types that the form does not allow
 abbrev pub sample_by : ℕ → (is1 is2 : Bool) → Value (cond is1 flow_sample (cond is2 counters_sample (fixed []))) → SampleValues
@@ -71,6 +53,6 @@ abbrev pub sample_of : ℕ → Value sample_type → SampleValues
 sample_of at v = sample_by at (eqb v.0 1) (eqb v.0 2) v.1
 
 -- a sample that begins at an offset, with its length
-abbrev pub as_sample : ℕ → Decoded SampleValues → SampleRead
-as_sample at (found v next) = Found (record { offset = at; length = next - at; values = v }) next
-as_sample at (refused why p) = Refused why p
+abbrev pub as_sample : ℕ → Decoded SampleValues → Result (Sample × ℕ) Refused
+as_sample at (found v next) = Ok (record { offset = at; length = next - at; values = v }, next)
+as_sample at (refused why p) = Err (refused_at why p)

@@ -1,17 +1,14 @@
 // Whole datagrams, and a cursor over their samples.
 ghost use Rattle.std.specs.Prelude.{◌≡◌};
-ghost use Rattle.sflow.specs.Grammar.{fixed};
-ghost use Rattle.sflow.specs.Decode.{decode, entries, mapped};
+ghost use Rattle.sflow.specs.Decode.{decode, entries};
 ghost use Rattle.sflow.specs.Datagram.{sample_type};
 ghost use Rattle.fields.specs.Parts.{as_passed};
-ghost use Rattle.reader.specs.Datagrams.{as_head, datagram_read, head_words, head_with, head_at, step_at};
+ghost use Rattle.reader.specs.Datagrams.{as_head, datagram_read, head_at, step_at};
 
-use crate::sample::{Sample, SampleRead};
-use fields::address::{Address, AddressRead};
-use fields::runs::Passed;
+use crate::sample::Sample;
+use fields::address::Address;
 use fields::words::Entries;
-use sflow::Refusal;
-use xdr::WordRead;
+use sflow::{Refusal, Refused};
 
 // What stands before the samples; samples are the offset of the first one and their number.
 #[derive(Clone, Copy)]
@@ -22,87 +19,53 @@ pub struct Head {
     pub samples: Entries,
 }
 
-#[derive(Clone, Copy)]
-pub enum HeadRead {
-    Found(Head),
-    Refused(Refusal, usize),
-}
-
 // The head alone, and whether the datagram is too long. What it gives is provisional: the samples are not looked at.
-pub fn read_head(s: &[u8]) -> HeadRead
+pub fn read_head(s: &[u8]) -> Result<Head, Refused>
     ensures { result ≡ as_head (head_at s.now) }
 {
     if 65507 < s.len() {
-        return HeadRead::Refused(Refusal::TooLong, 0);
+        return Err(Refused {
+            why: Refusal::TooLong,
+            at: 0,
+        });
     }
-    let WordRead::Word(version, agent_at) = xdr::read_word(s, 0) else {
-        return HeadRead::Refused(Refusal::CutItem, 0);
-    };
+    let (version, agent_at) = xdr::read_word(s, 0)?;
     if version != 4 {
-        return HeadRead::Refused(Refusal::Version, 0);
+        return Err(Refused {
+            why: Refusal::Version,
+            at: 0,
+        });
     }
-    match fields::address::read_address(s, agent_at) {
-        AddressRead::Refused(why, p) => HeadRead::Refused(why, p),
-        AddressRead::Found(agent, words_at) => read_head_words(s, words_at, agent),
-    }
-}
-
-// What follows the agent's address, which ends at an offset: sequence number, uptime and number of samples.
-fn read_head_words(s: &[u8], at: usize, agent: Address) -> HeadRead
-    ensures { result ≡ as_head (mapped (head_with agent at) (decode (fixed head_words) s.now at)) }
-{
-    let WordRead::Word(sequence_number, p1) = xdr::read_word(s, at) else {
-        return HeadRead::Refused(Refusal::CutItem, at);
-    };
-    let WordRead::Word(uptime, p2) = xdr::read_word(s, p1) else {
-        return HeadRead::Refused(Refusal::CutItem, p1);
-    };
-    let WordRead::Word(count, first) = xdr::read_word(s, p2) else {
-        return HeadRead::Refused(Refusal::CutItem, p2);
-    };
-    let samples = Entries { at: first, count };
-    HeadRead::Found(Head {
+    let (agent, words_at) = fields::address::read_address(s, agent_at)?;
+    let ([sequence_number, uptime, count], first) = fields::words::read_words::<3>(s, words_at)?;
+    Ok(Head {
         agent,
         sequence_number,
         uptime,
-        samples,
+        samples: Entries { at: first, count },
     })
 }
 
 // So many samples.
-fn pass_samples(s: &[u8], first: usize, count: u32) -> Passed
+fn pass_samples(s: &[u8], first: usize, count: u32) -> Result<usize, Refused>
     ensures { result ≡ as_passed (entries (decode sample_type s.now) count first) }
 {
-    let mut at = first;
-    let mut left = count;
-    while 0 < left {
-        let entry = crate::sample::pass_sample(s, at);
-        let Passed::Next(next) = entry else {
-            return entry;
-        };
-        at = next;
-        left -= 1;
-    }
-    Passed::Next(at)
+    fields::lists::pass_entries(first, count, |at| crate::sample::pass_sample(s, at))
 }
 
 // A whole datagram: its head, where all of it is well formed.
-pub fn read(s: &[u8]) -> HeadRead
+pub fn read(s: &[u8]) -> Result<Head, Refused>
     ensures { result ≡ datagram_read s.now }
 {
-    let start = read_head(s);
-    let HeadRead::Found(head) = start else {
-        return start;
-    };
-    match pass_samples(s, head.samples.at, head.samples.count) {
-        Passed::Refused(why, p) => HeadRead::Refused(why, p),
-        Passed::Next(end) => {
-            if end < s.len() {
-                return HeadRead::Refused(Refusal::Trailing, end);
-            }
-            start
-        }
+    let head = read_head(s)?;
+    let end = pass_samples(s, head.samples.at, head.samples.count)?;
+    if end < s.len() {
+        return Err(Refused {
+            why: Refusal::Trailing,
+            at: end,
+        });
     }
+    Ok(head)
 }
 
 // A place in a datagram: the offset of the next sample, and how many are left.
@@ -110,14 +73,6 @@ pub fn read(s: &[u8]) -> HeadRead
 pub struct Cursor {
     pub at: usize,
     pub left: u32,
-}
-
-// A sample with the cursor behind it; or the datagram's end; or a refusal.
-#[derive(Clone, Copy)]
-pub enum Step {
-    Found(Sample, Cursor),
-    End,
-    Refused(Refusal, usize),
 }
 
 // The cursor at the first sample.
@@ -130,27 +85,24 @@ pub fn start(head: Head) -> Cursor
     }
 }
 
-// One step of the walk over a datagram's samples that begins with `read_head` and `start`. The walk to its end accepts or refuses as
-// `read` does; what it gives before its end is provisional.
-pub fn next_sample(s: &[u8], c: Cursor) -> Step
+// One step of the walk over a datagram's samples that begins with `read_head` and `start`: the next sample with the cursor behind it, or
+// none at the datagram's end. The walk to its end accepts or refuses as `read` does; what it gives before its end is provisional.
+pub fn next_sample(s: &[u8], c: Cursor) -> Result<Option<(Sample, Cursor)>, Refused>
     ensures { result ≡ step_at s.now c }
 {
-    let at = c.at;
-    let left = c.left;
-    if left == 0 {
-        if at < s.len() {
-            return Step::Refused(Refusal::Trailing, at);
+    if c.left == 0 {
+        if c.at < s.len() {
+            return Err(Refused {
+                why: Refusal::Trailing,
+                at: c.at,
+            });
         }
-        return Step::End;
+        return Ok(None);
     }
-    match crate::sample::read_sample(s, at) {
-        SampleRead::Refused(why, p) => Step::Refused(why, p),
-        SampleRead::Found(sample, next) => Step::Found(
-            sample,
-            Cursor {
-                at: next,
-                left: left - 1,
-            },
-        ),
-    }
+    let (sample, next) = crate::sample::read_sample(s, c.at)?;
+    let behind = Cursor {
+        at: next,
+        left: c.left - 1,
+    };
+    Ok(Some((sample, behind)))
 }

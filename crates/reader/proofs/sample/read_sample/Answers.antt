@@ -1,46 +1,63 @@
+use borrow.Author.Rules.{rules}
+use native.Mathlib.Omega.{arith}
+use mathlib.Core.Path.{sym, ap, ◌∙◌}
+use Rattle.fields.proofs.Answers.{passed_up}
+use Rattle.reader.specs.Samples.{as_sample}
 use Rattle.reader.proofs.SampleKinds.{sample_cut, sample_other, sample_flow, sample_flow_refused, sample_flow_behind, sample_counters, sample_counters_refused, sample_counters_behind}
-use mathlib.Core.Path.{sym, ◌∙◌}
 use Rattle.reader.proofs.sample.read_sample.Goals as goal
+use Rattle.reader.proofs.sample.read_sample.Goals.{in-1+in_ok-flow-in-1, in-2+in_ok-counters-in-2}
+
+pub returns-in_err-kind : goal.returns-in_err-kind
+returns-in_err-kind c =
+    passed_up _ _ c.from_residual.ensures.1
+    ∙ sym (ap (as_sample c.args.at) (sample_cut _ _ _ (sym c.read_word.ensures ∙ c.in_err-kind.was)))
+
+pub returns-in_err-flow-in-1 : goal.returns-in_err-flow-in-1
+returns-in_err-flow-in-1 c =
+    passed_up _ _ c.from_residual-in_err-flow-in-1.ensures.1
+    ∙ sym
+    (ap (as_sample c.args.at)
+    (sample_flow_refused _ _ _ _ (sym c.read_word.ensures ∙ c.in_ok-kind.was) c.in-1.is _ _
+    (sym c.read_flow.ensures ∙ c.in_err-flow-in-1.was)))
+
+pub returns-in_err-counters-in-2 : goal.returns-in_err-counters-in-2
+returns-in_err-counters-in-2 c =
+    passed_up _ _ c.from_residual-in_err-counters-in-2.ensures.1
+    ∙ sym
+    (ap (as_sample c.args.at)
+    (sample_counters_refused _ _ _ _ (sym c.read_word.ensures ∙ c.in_ok-kind.was) c.in-2.is _ _
+    (sym c.read_counters.ensures ∙ c.in_err-counters-in-2.was)))
 
 pub returns-in_default : goal.returns-in_default
-returns-in_default c = rw (sample_cut _ _ _ (sym c.read_word.ensures ∙ c.in_default.is))
+returns-in_default c =
+    sym
+    (ap (as_sample c.args.at)
+    (sample_other _ _ _ _ (sym c.read_word.ensures ∙ c.in_ok-kind.was) (search rules) (search rules)))
 
-pub sample_to-requires : goal.sample_to-requires
-sample_to-requires c =
-    sample_flow_behind _ _ _ _ (sym c.read_word.ensures ∙ c.in-Word.is) c.if-kind-eq1.true _ _
-    (sym c.read_flow.ensures ∙ c.in-Found.is)
-
-pub returns-in-Refused : goal.returns-in-Refused
-returns-in-Refused c =
-    rw
-    (sample_flow_refused _ _ _ _ (sym c.read_word.ensures ∙ c.in-Word.is) c.if-kind-eq1.true _ _
-    (sym c.read_flow.ensures ∙ c.in-Refused.is))
-
-pub returns-in-Found : goal.returns-in-Found
-returns-in-Found c =
-    rw
-    (sample_flow _ _ _ _ (sym c.read_word.ensures ∙ c.in-Word.is) c.if-kind-eq1.true _ _
-    (sym c.read_flow.ensures ∙ c.in-Found.is)) c.sample_to.ensures
-
-pub sample_to-requires-in-Found-read_counters : goal.sample_to-requires-in-Found-read_counters
-sample_to-requires-in-Found-read_counters c =
-    sample_counters_behind _ _ _ _ (sym c.read_word.ensures ∙ c.in-Word.is) c.if-kind-eq2.true _ _
-    (sym c.read_counters.ensures ∙ c.in-Found-read_counters.is)
-
-pub returns-in-Refused-read_counters : goal.returns-in-Refused-read_counters
-returns-in-Refused-read_counters c =
-    rw
-    (sample_counters_refused _ _ _ _ (sym c.read_word.ensures ∙ c.in-Word.is) c.if-kind-eq2.true _ _
-    (sym c.read_counters.ensures ∙ c.in-Refused-read_counters.is))
-
-pub returns-in-Found-read_counters : goal.returns-in-Found-read_counters
-returns-in-Found-read_counters c =
-    rw
-    (sample_counters _ _ _ _ (sym c.read_word.ensures ∙ c.in-Word.is) c.if-kind-eq2.true _ _
-    (sym c.read_counters.ensures ∙ c.in-Found-read_counters.is)) c.sample_to-in-Found-read_counters.ensures
+pub overflow_sub-sample : goal.overflow_sub-sample
+overflow_sub-sample c =
+    elim c.match-kind.branch
+    [ in-1+in_ok-flow-in-1 w ↦
+        rw w.next-is
+        (sample_flow_behind _ _ _ _ (sym c.read_word.ensures ∙ c.in_ok-kind.was) w.in-1.is _ _
+        (sym w.read_flow.ensures ∙ w.in_ok-flow-in-1.was))
+    | in-2+in_ok-counters-in-2 w ↦
+        rw w.next-is
+        (sample_counters_behind _ _ _ _ (sym c.read_word.ensures ∙ c.in_ok-kind.was) w.in-2.is _ _
+        (sym w.read_counters.ensures ∙ w.in_ok-counters-in-2.was)) ]
 
 pub returns : goal.returns
 returns c =
-    rw
-    (sample_other _ _ _ _ (sym c.read_word.ensures ∙ c.in-Word.is)
-    c.if-kind-eq1.false c.if-kind-eq2.false)
+    elim c.match-kind.branch
+    [ in-1+in_ok-flow-in-1 w ↦
+        rw w.next-is
+        (sym
+        (ap (as_sample c.args.at)
+        (sample_flow _ _ _ _ (sym c.read_word.ensures ∙ c.in_ok-kind.was) w.in-1.is _ _
+        (sym w.read_flow.ensures ∙ w.in_ok-flow-in-1.was))))
+    | in-2+in_ok-counters-in-2 w ↦
+        rw w.next-is
+        (sym
+        (ap (as_sample c.args.at)
+        (sample_counters _ _ _ _ (sym c.read_word.ensures ∙ c.in_ok-kind.was) w.in-2.is _ _
+        (sym w.read_counters.ensures ∙ w.in_ok-counters-in-2.was)))) ]
