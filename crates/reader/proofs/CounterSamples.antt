@@ -2,13 +2,10 @@
 use Prim.Native.Nat.{ℕ, ◌+◌}
 use mathlib.Core.Path.{◌≡◌, ◌∙◌}
 use mathlib.Core.List.{List, [], ◌∷◌}
-use Rattle.xdr.specs.Items.{word_at}
 use Rattle.sflow.specs.declared.Refusal.{Refusal}
-use Rattle.sflow.specs.declared.Refusal.TheVariants.{CutItem}
-use Rattle.sflow.specs.Grammar.{fixed}
 use Rattle.sflow.specs.Decode.{found, refused, mapped, decode}
 use Rattle.sflow.specs.Datagram.{int, counters_type, counters_sample}
-use Rattle.sflow.proofs.Steps.{fixed_word, fixed_end, then_found, then_refused}
+use Rattle.sflow.proofs.Steps.{then_found, then_refused}
 use Rattle.counter_data.specs.declared.CounterBody.{CounterBody}
 use Rattle.reader.specs.declared.sample.CountersSample.{CountersSample}
 use Rattle.counter_data.specs.CounterBodies.{counter_body_of}
@@ -18,13 +15,8 @@ use Rattle.fields.specs.Words.{words}
 use Rattle.fields.specs.Parts.{item}
 use Rattle.fields.proofs.Compounds.{wrapped}
 use Rattle.fields.proofs.FixedItems.{fixed_next}
-use Rattle.std.specs.Prelude.{Result, Ok, Err, Option, Some, None}
-use Rattle.xdr.specs.Items.{cut}
-use Rattle.xdr.specs.declared.Cut.{Cut}
-use Rattle.xdr.specs.declared.Unpadded.{Unpadded}
-use Rattle.xdr.specs.declared.Unpadded.TheVariants.{CutShort, NonzeroPadding}
-use Rattle.std.specs.Prelude.{Result, Ok, Err}
-use Rattle.sflow.specs.declared.Refused.{Refused}
+use Rattle.std.specs.Prelude.{Ok, Err}
+use Rattle.std.specs.Prelude.{Ok, Err}
 use Rattle.sflow.specs.Decode.{refused_at, as_read}
 
 -- the words before the counters are cut short

@@ -6,7 +6,7 @@ use Rattle.xdr.specs.Items.{word_at}
 use Rattle.xdr.proofs.Reading.{word_read}
 use Rattle.sflow.specs.declared.Refusal.{Refusal}
 use Rattle.sflow.specs.Grammar.{fixed, list, ◌then◌}
-use Rattle.sflow.specs.Decode.{Decoded, found, refused, mapped, entries, decode}
+use Rattle.sflow.specs.Decode.{found, refused, mapped, entries, decode}
 use Rattle.sflow.specs.Datagram.{flow_words, packet_data_type, extended_data_type, flow_sample}
 use Rattle.sflow.proofs.Steps.{list_word, then_found, then_refused, entries_count}
 use Rattle.sflow.proofs.Ends.{end_is}
@@ -18,15 +18,9 @@ use Rattle.reader.specs.Samples.{flow_words_of, flow_with, flow_of}
 use Rattle.fields.proofs.Passing.{passed_next, passed_refused}
 use Rattle.fields.proofs.Answers.{read_told, read_refused}
 use Rattle.fields.proofs.Compounds.{Seen, seen, seen_refused}
-use Rattle.fields.proofs.FixedItems.{Reads, reads_found}
 use Rattle.fields.proofs.FixedItems.{fixed_next}
-use Rattle.std.specs.Prelude.{Result, Ok, Err, Option, Some, None}
-use Rattle.xdr.specs.Items.{cut}
-use Rattle.xdr.specs.declared.Cut.{Cut}
-use Rattle.xdr.specs.declared.Unpadded.{Unpadded}
-use Rattle.xdr.specs.declared.Unpadded.TheVariants.{CutShort, NonzeroPadding}
-use Rattle.std.specs.Prelude.{Result, Ok, Err}
-use Rattle.sflow.specs.declared.Refused.{Refused}
+use Rattle.std.specs.Prelude.{Ok, Err}
+use Rattle.std.specs.Prelude.{Ok, Err}
 use Rattle.sflow.specs.Decode.{refused_at}
 use Rattle.sflow.specs.Decode.{refused_at, as_read}
 

@@ -2,7 +2,7 @@
 use Prim.Native.Nat.{ℕ, ◌+◌, ◌≤◌, ◌<◌}
 use native.Mathlib.Omega.{arith}
 use mathlib.Core.Path.{◌≡◌, refl, ap, ◌∙◌}
-use mathlib.Core.List.{List, [], ◌∷◌}
+use mathlib.Core.List.{List}
 use lib.ListN.{length}
 use borrow.Author.Tests.{lt-ltb, le-ltb, ne_eqb}
 use Rattle.xdr.specs.Items.{word_at}
@@ -23,14 +23,10 @@ use Rattle.fields.proofs.Answers.{read_told, read_refused}
 use Rattle.fields.specs.Words.{words}
 use Rattle.fields.specs.Parts.{item}
 use Rattle.fields.proofs.Compounds.{seen, seen_refused}
-use Rattle.fields.proofs.FixedItems.{Reads, reads_found, fixed_next}
-use Rattle.std.specs.Prelude.{Result, Ok, Err, Option, Some, None}
+use Rattle.fields.proofs.FixedItems.{fixed_next}
+use Rattle.std.specs.Prelude.{Ok, Err}
 use Rattle.xdr.specs.Items.{cut}
-use Rattle.xdr.specs.declared.Cut.{Cut}
-use Rattle.xdr.specs.declared.Unpadded.{Unpadded}
-use Rattle.xdr.specs.declared.Unpadded.TheVariants.{CutShort, NonzeroPadding}
-use Rattle.std.specs.Prelude.{Result, Ok, Err}
-use Rattle.sflow.specs.declared.Refused.{Refused}
+use Rattle.std.specs.Prelude.{Ok, Err}
 use Rattle.sflow.specs.Decode.{refused_at, as_read}
 
 pub head_long : (s : List ℕ) → longest < length s → head_at s ≡ refused TooLong 0

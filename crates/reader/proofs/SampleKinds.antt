@@ -20,13 +20,9 @@ use Rattle.reader.specs.declared.sample.SampleValues.TheVariants.{Flow, Counters
 use Rattle.reader.specs.Samples.{flow_of, counters_of, sample_of}
 use Rattle.fields.proofs.Answers.{read_told, read_refused}
 use Rattle.fields.proofs.Compounds.{seen, wrapped}
-use Rattle.std.specs.Prelude.{Result, Ok, Err, Option, Some, None}
+use Rattle.std.specs.Prelude.{Ok, Err}
 use Rattle.xdr.specs.Items.{cut}
-use Rattle.xdr.specs.declared.Cut.{Cut}
-use Rattle.xdr.specs.declared.Unpadded.{Unpadded}
-use Rattle.xdr.specs.declared.Unpadded.TheVariants.{CutShort, NonzeroPadding}
-use Rattle.std.specs.Prelude.{Result, Ok, Err}
-use Rattle.sflow.specs.declared.Refused.{Refused}
+use Rattle.std.specs.Prelude.{Ok, Err}
 use Rattle.sflow.specs.Decode.{refused_at, as_read}
 
 pub sample_cut : (s : List ℕ) (at p : ℕ) → word_at s at ≡ cut p → mapped (sample_of at) (decode sample_type s at) ≡ refused CutItem p

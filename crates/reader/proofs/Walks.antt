@@ -24,7 +24,7 @@ use Rattle.reader.proofs.Wholes.{read_samples_refused, read_samples}
 use Rattle.std.specs.Prelude.{Result, Ok, Err}
 use Rattle.sflow.specs.declared.Refused.{Refused}
 use Rattle.sflow.specs.Decode.{refused_at}
-use Rattle.sflow.specs.Decode.{refused_at, as_read}
+use Rattle.sflow.specs.Decode.{refused_at}
 
 -- ---- one step
 

@@ -24,15 +24,12 @@ use Rattle.reader.specs.Datagrams.{head_words, datagram_head, head_of, head_at, 
 use Rattle.fields.proofs.Passing.{passed_next, passed_refused, refusing}
 use Rattle.fields.proofs.Compounds.{seen, seen_refused}
 use Rattle.fields.proofs.FixedItems.{no_more, word_then, word_cut, reads_found, fixed_next}
-use Rattle.std.specs.Prelude.{Result, Ok, Err, Option, Some, None}
-use Rattle.xdr.specs.Items.{cut}
+use Rattle.std.specs.Prelude.{Result, Ok, Err}
 use Rattle.xdr.specs.declared.Cut.{Cut}
-use Rattle.xdr.specs.declared.Unpadded.{Unpadded}
-use Rattle.xdr.specs.declared.Unpadded.TheVariants.{CutShort, NonzeroPadding}
 use Rattle.std.specs.Prelude.{Result, Ok, Err}
 use Rattle.sflow.specs.declared.Refused.{Refused}
 use Rattle.sflow.specs.Decode.{refused_at}
-use Rattle.sflow.specs.Decode.{refused_at, as_read}
+use Rattle.sflow.specs.Decode.{refused_at}
 
 -- a datagram's value, of its head's and its samples'
 abbrev joined : Value datagram_head → List (Value sample_type) → Value sample_datagram
