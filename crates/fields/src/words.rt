@@ -7,16 +7,22 @@ ghost use Rattle.fields.specs.Words.{words};
 
 use sflow::{Refusal, Refused};
 
-// So many words, each an item of its own, in one comparison.
+// So many words, each an item of its own; one comparison tells whether all are there.
 pub fn read_words<const N: usize>(s: &[u8], at: usize) -> Result<([u32; N], usize), Refused>
     ensures { result ≡ as_read (decode (words N) s.now at) }
 {
+    let left = s.len().saturating_sub(at);
+    if left / 4 < N {
+        return Err(Refused {
+            why: Refusal::CutItem,
+            at: at + left / 4 * 4,
+        });
+    }
     let mut values = [0; N];
     let mut next = at;
     for value in &mut values {
-        let (word, behind) = xdr::read_word(s, next)?;
-        *value = word;
-        next = behind;
+        *value = xdr::word_of(s[next], s[next + 1], s[next + 2], s[next + 3]);
+        next += 4;
     }
     Ok((values, next))
 }

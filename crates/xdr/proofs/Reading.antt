@@ -1,7 +1,7 @@
 -- Words, hypers and sixteen octets: what a read answers, and what each answer says of the octets. Assumes nothing.
-use Prim.Native.Nat.{ℕ, ◌+◌, ◌*◌, ◌≤◌, ◌<◌}
+use Prim.Native.Nat.{ℕ, ◌+◌, ◌≤◌, ◌<◌}
 use native.Mathlib.Omega.{arith}
-use mathlib.Core.Path.{◌≡◌, refl, sym, ap, ◌∙◌}
+use mathlib.Core.Path.{◌≡◌, refl, sym, ap}
 use mathlib.Core.Logic.{◌⊎◌, inl, inr, ⊎_elim}
 use mathlib.Core.Bool.{Bool, true, false, cond}
 use mathlib.Core.List.{List}
@@ -9,11 +9,10 @@ use lib.ListN.{length}
 use lib.Dec.{leb}
 use borrow.Author.Tests.{le-leb, lt-leb, leb-true, leb-false}
 use Rattle.xdr.specs.Numbers.{number_at}
-use Rattle.std.specs.Prelude.{Result, Ok, Err}
+use Rattle.std.specs.Prelude.{Result, Ok}
 use Rattle.xdr.specs.declared.Cut.{Cut}
 use Rattle.xdr.specs.declared.Quad.{Quad}
 use Rattle.xdr.specs.Items.{cut, word_at, hyper_at, quad_in, quad_at}
-use Rattle.xdr.proofs.Octets.{number_join}
 
 -- Zero is not one. Two answers that differ, taken for one, make them equal.
 pub never : ◌≡◌ {A = ℕ} 0 1 → ⊥
@@ -116,46 +115,10 @@ pub word_short : (s : List ℕ) (at p : ℕ) → word_at s at ≡ cut p → leng
 unfolding word_at
 word_short s at p e = (tested_no (at + 4) (length s) _ _ _ (λ q. never (cc)) e).0
 
+pub hyper_short : (s : List ℕ) (at p : ℕ) → hyper_at s at ≡ cut p → length s < at + 8
+unfolding hyper_at
+hyper_short s at p e = (tested_no (at + 8) (length s) _ _ _ (λ q. never (cc)) e).0
+
 pub quad_short : (s : List ℕ) (at p : ℕ) → quad_at s at ≡ cut p → length s < at + 16
 unfolding quad_at
 quad_short s at p e = (tested_no (at + 16) (length s) _ _ _ (λ q. never (cc)) e).0
-
--- A hyper is cut where its first word is.
-pub hyper_cut : (s : List ℕ) (at p : ℕ) → word_at s at ≡ cut p → cut p ≡ hyper_at s at
-hyper_cut s at p e =
-    let l = word_short s at p e in
-    let short : length s < at + 8 = omega arith in
-    rw (word_cut s at p e) (sym (hyper_missing s at short))
-
--- Where sixteen octets are there, no word of theirs is cut.
-pub word_there : {A : Type 0} (s : List ℕ) (at p : ℕ) → word_at s at ≡ cut p → at + 4 ≤ length s → A
-word_there s at p e h = let l = word_short s at p e in absurd (omega arith)
-
--- A hyper is two words, the high one first.
-pub hyper_words : (s : List ℕ) (at high middle low next : ℕ) → word_at s at ≡ Ok (high, middle) → word_at s middle ≡ Ok (low, next)
-    → hyper_at s at ≡ Ok (high * 4294967296 + low, next)
-hyper_words s at high middle low next e f =
-    let a = word_read s at high middle e in
-    let b = word_read s middle low next f in
-    let m : middle ≡ at + 4 = a.next_is in
-    let h : at + 8 ≤ length s = omega arith in
-    let l : low ≡ number_at s (at + 4) 4 = rw m at b.value_is in
-    let v : number_at s at 8 ≡ high * 4294967296 + low = omega (arith, number_join s at 4 4) in
-    let n : at + 8 ≡ next = omega arith in
-    hyper_whole s at h ∙ rw (v, n)
-
--- Sixteen octets are four words.
-pub quad_words : (s : List ℕ) (at a second b third c fourth d next : ℕ)
-    → word_at s at ≡ Ok (a, second) → word_at s second ≡ Ok (b, third) → word_at s third ≡ Ok (c, fourth) → word_at s fourth ≡ Ok (d, next)
-    → quad_at s at ≡ Ok (record { a = a; b = b; c = c; d = d }, next)
-quad_words s at a second b third c fourth d next e f g h =
-    let v = word_read s at a second e in
-    let w = word_read s second b third f in
-    let x = word_read s third c fourth g in
-    let y = word_read s fourth d next h in
-    let p : second ≡ at + 4 = v.next_is in
-    let q : third ≡ at + 8 = omega arith in
-    let r : fourth ≡ at + 12 = omega arith in
-    let n : next ≡ at + 16 = omega arith in
-    let room : at + 16 ≤ length s = omega arith in
-    quad_whole s at room ∙ sym (rw (n, v.value_is, w.value_is, x.value_is, y.value_is, p, q, r))

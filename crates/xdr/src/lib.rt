@@ -1,7 +1,8 @@
 #![tactic(auto)]
 // Items of XDR (RFC 1832) read out of octets. Crate xdr_write writes them.
 // Every function answers for every slice and every offset, also an offset beyond the slice. A value is given with the offset behind it.
-ghost use Rattle.std.specs.Prelude.{◌≡◌, ◌+◌, ◌*◌};
+ghost use Rattle.std.specs.Prelude.{◌≡◌, ◌+◌, ◌*◌, ◌≤◌, length};
+ghost use Rattle.xdr.specs.Numbers.{number_at};
 ghost use Rattle.xdr.specs.Items.{word_at, hyper_at, quad_at, items_at, nonzero_at, padded_at};
 
 // The offset of an item that is cut short.
@@ -17,7 +18,15 @@ pub fn read_word(s: &[u8], at: usize) -> Result<(u32, usize), Cut>
     if s.len() < at || s.len() - at < 4 {
         return Err(Cut { at });
     }
-    Ok((word_of(s[at], s[at + 1], s[at + 2], s[at + 3]), at + 4))
+    Ok((word_in(s, at), at + 4))
+}
+
+// The word that stands at an offset.
+fn word_in(s: &[u8], at: usize) -> u32
+    requires { at + 4 ≤ length s.now }
+    ensures { result ≡ number_at s.now at 4 }
+{
+    word_of(s[at], s[at + 1], s[at + 2], s[at + 3])
 }
 
 // The number that two octets are, the most significant first.
@@ -38,11 +47,12 @@ pub fn word_of(a: u8, b: u8, c: u8, d: u8) -> u32
 pub fn read_hyper(s: &[u8], at: usize) -> Result<(u64, usize), Cut>
     ensures { result ≡ hyper_at s.now at }
 {
-    let (high, middle) = read_word(s, at)?;
-    let Ok((low, next)) = read_word(s, middle) else {
+    if s.len() < at || s.len() - at < 8 {
         return Err(Cut { at });
-    };
-    Ok(((high as u64) * 4294967296 + (low as u64), next))
+    }
+    let high = word_in(s, at) as u64;
+    let low = word_in(s, at + 4) as u64;
+    Ok((high * 4294967296 + low, at + 8))
 }
 
 // Sixteen octets as four words.
@@ -61,11 +71,13 @@ pub fn read_quad(s: &[u8], at: usize) -> Result<(Quad, usize), Cut>
     if s.len() < at || s.len() - at < 16 {
         return Err(Cut { at });
     }
-    let (a, second) = read_word(s, at)?;
-    let (b, third) = read_word(s, second)?;
-    let (c, fourth) = read_word(s, third)?;
-    let (d, next) = read_word(s, fourth)?;
-    Ok((Quad { a, b, c, d }, next))
+    let quad = Quad {
+        a: word_in(s, at),
+        b: word_in(s, at + 4),
+        c: word_in(s, at + 8),
+        d: word_in(s, at + 12),
+    };
+    Ok((quad, at + 16))
 }
 
 // Items of these widths, whatever their values, one behind the other: the offset behind the last one.

@@ -1,23 +1,15 @@
 use native.Mathlib.Omega.{arith}
-use mathlib.Core.Path.{sym, ◌∙◌}
-use Rattle.std.proofs.lemmas.Result.{err_from_is_err_and}
-use Rattle.xdr.proofs.Reading.{word_read, word_short, hyper_cut, hyper_missing, hyper_words}
+use mathlib.Core.Path.{sym}
+use Rattle.xdr.proofs.Octets.{number_join}
+use Rattle.xdr.proofs.Reading.{hyper_whole, hyper_missing}
 use Rattle.xdr.proofs.read_hyper.Goals as goal
+use Rattle.xdr.proofs.read_hyper.Goals.{then-s-at-via-then-s-at, then-s-at-via-else-s-at+then-s-at-lt8}
 
-pub returns-in_err-high : goal.returns-in_err-high
-returns-in_err-high c =
-    let p = err_from_is_err_and c.from_residual.result c.from_residual.ensures.1 in
-    rw (p.1, p.2) (hyper_cut _ _ _ (sym c.read_word.ensures ∙ c.in_err-high.was))
-
-pub returns-in_default : goal.returns-in_default
-returns-in_default c =
-    let high = word_read _ _ _ _ (sym c.read_word.ensures ∙ c.in_ok-high.was) in
-    let short = word_short _ _ _ (sym c.read_word-2.ensures ∙ c.in_default.is) in
-    let next = high.next_is in
-    sym (hyper_missing _ _ (omega arith))
+pub returns-then-s-at : goal.returns-then-s-at
+returns-then-s-at c =
+    elim c.then-s-at.branch
+    [ then-s-at-via-then-s-at w ↦ sym (hyper_missing _ _ (omega arith))
+    | then-s-at-via-else-s-at+then-s-at-lt8 w ↦ sym (hyper_missing _ _ (omega arith)) ]
 
 pub returns : goal.returns
-returns c =
-    let high = sym c.read_word.ensures ∙ c.in_ok-high.was in
-    let low = sym c.read_word-2.ensures ∙ c.in-Ok.is in
-    sym (hyper_words _ _ _ _ _ _ high low)
+returns c = rw (c.word_in-high.ensures, c.word_in-low.ensures, ← number_join c.args.s.now c.args.at 4 4) (sym (hyper_whole _ _ (omega arith)))

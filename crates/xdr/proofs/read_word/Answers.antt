@@ -1,6 +1,5 @@
 use native.Mathlib.Omega.{arith}
-use mathlib.Core.Path.{sym, ◌∙◌}
-use Rattle.xdr.proofs.Octets.{word_number}
+use mathlib.Core.Path.{sym}
 use Rattle.xdr.proofs.Reading.{word_whole, word_missing}
 use Rattle.xdr.proofs.read_word.Goals as goal
 use Rattle.xdr.proofs.read_word.Goals.{then-s-at-via-then-s-at, then-s-at-via-else-s-at+then-s-at-lt4}
@@ -12,4 +11,4 @@ returns-then-s-at c =
     | then-s-at-via-else-s-at+then-s-at-lt4 w ↦ sym (word_missing _ _ (omega arith)) ]
 
 pub returns : goal.returns
-returns c = rw c.word_of.ensures (sym (word_whole _ _ (omega arith) ∙ rw word_number))
+returns c = rw c.word_in.ensures (sym (word_whole _ _ (omega arith)))
