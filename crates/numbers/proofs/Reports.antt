@@ -2,6 +2,10 @@
 use Prim.Native.Nat.{ℕ, zero, suc, ◌+◌, ◌-◌, ◌≤◌, ◌<◌}
 use native.Mathlib.Nat.{not-suc-le-zero, le_of_suc-le-suc, zero-add, suc-add, le_refl}
 use native.Mathlib.Omega.{arith}
+use mathlib.Core.Logic.{⊎_elim}
+use mathlib.Core.Bool.{true, false}
+use Prim.Native.Nat.{min}
+use Rattle.xdr.proofs.Reading.{tested}
 use mathlib.Core.Path.{◌≡◌, refl, ap, sym, ◌∙◌}
 use mathlib.Core.List.{List, [], ◌∷◌, ◌++◌, append-nil}
 use lib.ListN.{length, take, drop, set, get_or, length-drop}
@@ -88,3 +92,11 @@ copied_whole xs d n h k =
 -- a part to the end of a list
 pub part_is : (at : ℕ) (ns : List ℕ) → take (length ns - at) (drop at ns) ≡ drop at ns
 part_is at ns = take_all (length ns - at) (drop at ns) (rw (length-drop at ns) (omega arith))
+
+-- as many numbers as there are and as have room, copied to the front
+pub filled_least : (xs d : List ℕ) → take (min (length xs) (length d)) xs ++ drop (min (length xs) (length d)) d ≡ filled xs d
+filled_least xs d =
+    ⊎_elim
+    (λ h. let l = h.0 in let e : min (length xs) (length d) ≡ length xs = omega arith in rw e (sym (filled_whole xs d l)))
+    (λ h. let l = h.0 in let e : min (length xs) (length d) ≡ length d = omega arith in rw e (sym (filled_part xs d (omega arith))))
+    (tested (length xs) (length d) true false _ refl)

@@ -1,6 +1,6 @@
 -- Addresses as numbers.
 use Rattle.std.specs.Prelude.{ℕ, List, [], ◌∷◌}
-use Rattle.fields.specs.declared.address.Quad.{Quad}
+use Rattle.xdr.specs.declared.Quad.{Quad}
 use Rattle.fields.specs.declared.address.Address.{Address}
 
 -- sixteen octets as four words

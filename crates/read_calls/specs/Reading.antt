@@ -1,15 +1,10 @@
 -- The answers of reading a datagram, an extended entry and a path segment, as numbers.
-use Rattle.std.specs.Prelude.{ℕ, List, [], ◌∷◌, ◌++◌}
+use Rattle.std.specs.Prelude.{ℕ, List, [], ◌∷◌, ◌++◌, Result, Ok, Err}
 use Rattle.extended_data.specs.declared.Extended.{Extended}
 use Rattle.extended_data.specs.declared.Extended.TheVariants.{IsSwitch, IsRouter, IsGateway, IsUser, IsUrl}
-use Rattle.extended_data.specs.declared.ExtendedRead.{ExtendedRead}
-use Rattle.extended_data.specs.declared.ExtendedRead.TheVariants.{Found as FoundExtended, Refused as RefusedExtended}
 use Rattle.extended_data.specs.declared.Segment.{Segment}
-use Rattle.extended_data.specs.declared.SegmentRead.{SegmentRead}
-use Rattle.extended_data.specs.declared.SegmentRead.TheVariants.{Found as FoundSegment, Refused as RefusedSegment}
 use Rattle.reader.specs.declared.datagram.Head.{Head}
-use Rattle.reader.specs.declared.datagram.HeadRead.{HeadRead}
-use Rattle.reader.specs.declared.datagram.HeadRead.TheVariants.{Found as FoundHead, Refused as RefusedHead}
+use Rattle.sflow.specs.declared.Refused.{Refused}
 use Rattle.numbers.specs.Reports.{Report, report, refusal_report}
 use Rattle.numbers.specs.Addresses.{quad_numbers}
 
@@ -19,9 +14,9 @@ head_numbers h =
     h.agent.kind ∷ (quad_numbers h.agent.octets ++ (h.sequence_number ∷ h.uptime ∷ h.samples.count ∷ h.samples.at ∷ []))
 
 -- 0; the numbers of a datagram's head
-abbrev pub head_report : HeadRead → Report
-head_report (FoundHead h) = report 0 (head_numbers h)
-head_report (RefusedHead why p) = refusal_report why p
+abbrev pub head_report : Result Head Refused → Report
+head_report (Ok h) = report 0 (head_numbers h)
+head_report (Err r) = refusal_report r.why r.at
 
 -- the extended data type
 abbrev pub extended_type : Extended → ℕ
@@ -49,15 +44,15 @@ abbrev pub entry_numbers : Extended → ℕ → List ℕ
 entry_numbers x next = extended_type x ∷ next ∷ extended_numbers x
 
 -- 0; the numbers of an extended entry
-abbrev pub extended_report : ExtendedRead → Report
-extended_report (FoundExtended x next) = report 0 (entry_numbers x next)
-extended_report (RefusedExtended why p) = refusal_report why p
+abbrev pub extended_report : Result (Extended × ℕ) Refused → Report
+extended_report (Ok r) = report 0 (entry_numbers r.0 r.1)
+extended_report (Err r) = refusal_report r.why r.at
 
 -- type and offset behind a path segment, count of its words, offset of the first
 abbrev pub segment_numbers : Segment → ℕ → List ℕ
 segment_numbers x next = x.kind ∷ next ∷ x.numbers.count ∷ x.numbers.at ∷ []
 
 -- 0; the numbers of a path segment
-abbrev pub segment_report : SegmentRead → Report
-segment_report (FoundSegment x next) = report 0 (segment_numbers x next)
-segment_report (RefusedSegment why p) = refusal_report why p
+abbrev pub segment_report : Result (Segment × ℕ) Refused → Report
+segment_report (Ok r) = report 0 (segment_numbers r.0 r.1)
+segment_report (Err r) = refusal_report r.why r.at

@@ -3,17 +3,16 @@
 // many as it has room for. Crate export gives them to C and Rust.
 ghost use Rattle.std.specs.Prelude.{◌≡◌, ◌∷◌};
 ghost use Rattle.xdr.specs.Writes.{afterwards};
-ghost use Rattle.sflow.specs.Decode.{decode, mapped};
+ghost use Rattle.sflow.specs.Decode.{decode, mapped, as_read};
 ghost use Rattle.sflow.specs.Datagram.{as_path_type, extended_data_type};
 ghost use Rattle.extended_data.specs.declared.Extended.TheVariants.{IsSwitch, IsRouter, IsGateway};
-ghost use Rattle.extended_data.specs.ExtendedData.{segment_of, as_segment, extended_of, as_extended};
+ghost use Rattle.extended_data.specs.ExtendedData.{segment_of, extended_of};
 ghost use Rattle.reader.specs.Datagrams.{datagram_read};
 ghost use Rattle.numbers.specs.Reports.{filled, tell};
 ghost use Rattle.read_calls.specs.Reading.{head_report, extended_numbers, entry_numbers, extended_report, segment_report};
 
-use extended_data::{Extended, ExtendedRead, Gateway, Router, SegmentRead, Switch};
+use extended_data::{Extended, Gateway, Router, Switch};
 use numbers::{fill, refuse};
-use reader::datagram::HeadRead;
 
 // Reads a whole datagram. Answers 0 where it is well formed; the array takes nine numbers:
 //   0 agent address type, 1 for IPv4 or 2 for IPv6; 1 to 4 the address's words (of an IPv4 address the first, and three zeros);
@@ -23,8 +22,8 @@ pub fn read(octets: &[u8], out: &mut [u64]) -> u32
     ensures { afterwards result out.new ≡ tell (head_report (datagram_read octets.now)) out.old }
 {
     match reader::datagram::read(octets) {
-        HeadRead::Refused(why, p) => refuse(why, p, out),
-        HeadRead::Found(h) => {
+        Err(refused) => refuse(refused, out),
+        Ok(h) => {
             fill(
                 out,
                 &[
@@ -145,11 +144,11 @@ fn fill_extended(x: Extended, next: usize, out: &mut [u64])
 // Else it answers the refusal's number, 1, 3, 8 to 10 or 12, and the array takes the refusal's offset.
 pub fn extended(octets: &[u8], at: usize, out: &mut [u64]) -> u32
     ensures { afterwards result out.new
-        ≡ tell (extended_report (as_extended (mapped (extended_of at) (decode extended_data_type octets.now at)))) out.old }
+        ≡ tell (extended_report (as_read (mapped (extended_of at) (decode extended_data_type octets.now at)))) out.old }
 {
     match extended_data::read_extended(octets, at) {
-        ExtendedRead::Refused(why, p) => refuse(why, p, out),
-        ExtendedRead::Found(x, next) => {
+        Err(refused) => refuse(refused, out),
+        Ok((x, next)) => {
             fill_extended(x, next, out);
             0
         }
@@ -162,11 +161,11 @@ pub fn extended(octets: &[u8], at: usize, out: &mut [u64]) -> u32
 // Else it answers the refusal's number, 1 or 9, and the array takes the refusal's offset.
 pub fn segment(octets: &[u8], at: usize, out: &mut [u64]) -> u32
     ensures { afterwards result out.new
-        ≡ tell (segment_report (as_segment (mapped (segment_of at) (decode as_path_type octets.now at)))) out.old }
+        ≡ tell (segment_report (as_read (mapped (segment_of at) (decode as_path_type octets.now at)))) out.old }
 {
     match extended_data::read_segment(octets, at) {
-        SegmentRead::Refused(why, p) => refuse(why, p, out),
-        SegmentRead::Found(x, next) => {
+        Err(refused) => refuse(refused, out),
+        Ok((x, next)) => {
             fill(
                 out,
                 &[
