@@ -7,9 +7,6 @@ use mathlib.Core.List.{List, [], ◌∷◌}
 use lib.ListN.{length, replicate}
 use lib.Dec.{eqb}
 use Rattle.xdr.specs.Items.{word_at, items_at, numbers_at, total_width}
-use Rattle.xdr.specs.declared.WordRead.TheVariants.{Word, CutWord}
-use Rattle.xdr.specs.declared.RunRead.{RunRead}
-use Rattle.xdr.specs.declared.RunRead.TheVariants.{Run, CutRun}
 use Rattle.xdr.proofs.Reading.{never, word_read}
 use Rattle.xdr.proofs.Runs.{items_read, items_whole}
 use Rattle.sflow.specs.declared.Refusal.TheVariants.{CountersVersion}
@@ -23,6 +20,9 @@ use Rattle.numbers.specs.Reports.{filled, filled_behind}
 use Rattle.numbers.proofs.Reports.{behind_behind}
 use Rattle.counter_calls.specs.CounterReports.{value_numbers}
 use Rattle.counter_calls.proofs.CounterRuns.{numbers_count}
+use Rattle.std.specs.Prelude.{Result, Ok, Err}
+use Rattle.xdr.specs.Items.{cut}
+use Rattle.xdr.specs.declared.Cut.{Cut}
 
 -- ---- the counters that are found
 
@@ -41,11 +41,11 @@ none_chosen (case n ws ∷ arms) v h = go (eqb v n) h (none_chosen arms v)
     go false k rest = rest k
 
 -- the version word is cut short
-pub version_cut : (s : List ℕ) (at p : ℕ) → word_at s at ≡ CutWord p → counters_found (decode counters_type s at) ≡ []
+pub version_cut : (s : List ℕ) (at p : ℕ) → word_at s at ≡ cut p → counters_found (decode counters_type s at) ≡ []
 version_cut s at p e =
     seen (decode counters_type s at) ∙ ap counters_found (union_cut CountersVersion (listed counters_versions) form_of s at (λ v. v) p e)
 
-module _ (s : List ℕ) (at v first : ℕ) (e : word_at s at ≡ Word v first) where
+module _ (s : List ℕ) (at v first : ℕ) (e : word_at s at ≡ Ok (v, first)) where
   abbrev counters : List ℕ
   counters = counters_found (decode counters_type s at)
 
@@ -69,14 +69,14 @@ module _ (s : List ℕ) (at v first : ℕ) (e : word_at s at ≡ Word v first) w
   pub counters_short : (size : ℕ) → size ≡ total_width (widths_of v) → length s - first < size → counters ≡ []
   counters_short size z k = go (listed counters_versions v) refl
     where
-      run : (r : RunRead) → items_at s first (widths_of v) ≡ r
+      run : (r : Result ℕ Cut) → items_at s first (widths_of v) ≡ r
           → counters_found (mapped (λ vs. (v, vs)) (fixed_items (numbers_at s first (widths_of v)) r)) ≡ []
-      run (Run next) f =
+      run (Ok next) f =
           let r = items_read s first (widths_of v) next f in
           let n : next ≡ first + total_width (widths_of v) = r.next_is in
           let m : next ≤ length s = r.within version_within in
           absurd (omega (arith, n, m, z))
-      run (CutRun p) f = refl
+      run (Err p) f = refl
 
       go : (b : Bool) → listed counters_versions v ≡ b → counters ≡ []
       go true t = version_read t ∙ run (items_at s first (widths_of v)) refl

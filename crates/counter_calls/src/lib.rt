@@ -10,8 +10,6 @@ ghost use Rattle.counter_data.specs.CounterBodies.{counters_found};
 ghost use Rattle.numbers.specs.Reports.{filled, filled_behind};
 ghost use Rattle.counter_calls.specs.CounterReports.{value_numbers};
 
-use xdr::{HyperRead, WordRead};
-
 // Puts a number behind the first n of an array, if it has room.
 fn put(v: u64, n: usize, out: &mut [u64])
     ensures { out.new ≡ filled_behind n (v ∷ []) out.old }
@@ -28,14 +26,12 @@ fn put_words(s: &[u8], first: usize, count: usize, n: usize, out: &mut [u64])
     ensures { out.new ≡ filled_behind n (numbers_at s.now first (replicate count 4)) out.old }
 {
     let mut at = first;
-    let mut i = 0;
-    while i < count {
-        let WordRead::Word(v, next) = xdr::read_word(s, at) else {
+    for i in 0..count {
+        let Ok((v, next)) = xdr::read_word(s, at) else {
             return;
         };
         put(v as u64, n + i, out);
         at = next;
-        i += 1;
     }
 }
 
@@ -44,7 +40,7 @@ fn put_hyper(s: &[u8], at: usize, n: usize, out: &mut [u64])
     requires { at + 8 ≤ length s.now }
     ensures { out.new ≡ filled_behind n (numbers_at s.now at (8 ∷ [])) out.old }
 {
-    let HyperRead::Hyper(v, _) = xdr::read_hyper(s, at) else {
+    let Ok((v, _)) = xdr::read_hyper(s, at) else {
         return;
     };
     put(v, n, out);
@@ -167,10 +163,8 @@ fn put_zeros(n: usize, out: &mut [u64])
     requires { n ≤ 38 }
     ensures { out.new ≡ filled_behind n (replicate (38 - n) 0) out.old }
 {
-    let mut i = n;
-    while i < 38 {
+    for i in n..38 {
         put(0, i, out);
-        i += 1;
     }
 }
 
@@ -179,7 +173,7 @@ fn put_zeros(n: usize, out: &mut [u64])
 pub fn fill_values(s: &[u8], at: usize, out: &mut [u64])
     ensures { out.new ≡ filled (value_numbers (counters_found (decode counters_type s.now at))) out.old }
 {
-    let WordRead::Word(version, first) = xdr::read_word(s, at) else {
+    let Ok((version, first)) = xdr::read_word(s, at) else {
         put_zeros(0, out);
         return;
     };

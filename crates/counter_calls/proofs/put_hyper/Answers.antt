@@ -11,4 +11,4 @@ returns-in_default c =
 
 pub returns : goal.returns
 returns c =
-    hyper_put _ _ _ _ _ _ _ (hyper_read _ _ _ _ (sym c.read_hyper.ensures ∙ c.in-Hyper.is)) c.put.ensures
+    hyper_put _ _ _ _ _ _ _ (hyper_read _ _ _ _ (sym c.read_hyper.ensures ∙ c.in-Ok.is)) c.put.ensures

@@ -6,33 +6,20 @@ use Rattle.counter_calls.proofs.CounterRuns.{words_start, words_end, words_step}
 use Rattle.counter_calls.proofs.put_words.Goals as goal
 
 pub loop-i-init : goal.loop-i-init
-loop-i-init c = let a = c.args in (search rules, search rules, refl, words_start a.s.now a.out.now a.first a.count a.n)
-
-pub read_word-requires : goal.read_word-requires
-read_word-requires c = tt
-
-pub shape_of-out-in_default : goal.shape_of-out-in_default
-shape_of-out-in_default c = c.loop-i.invariant.2
+loop-i-init c = let a = c.args in (search rules, refl, words_start a.s.now a.out.now a.first a.count a.n)
 
 pub returns-in_default : goal.returns-in_default
 returns-in_default c =
     let cut = word_short _ _ _ (sym c.read_word.ensures ∙ c.in_default.is) in
     absurd (search rules)
 
-pub put-requires : goal.put-requires
-put-requires c = tt
-
 pub loop-i-preserved : goal.loop-i-preserved
 loop-i-preserved c =
-    let r = word_read _ _ _ _ (sym c.read_word.ensures ∙ c.in-Word.is) in (
+    let r = word_read _ _ _ _ (sym c.read_word.ensures ∙ c.in-Ok.is) in (
       omega (arith, r.next_is, c.loop-i.invariant.0),
       search rules,
-      c.out-1.given ∙ c.loop-i.invariant.2,
-      words_step _ _ _ _ _ _ _ _ _ c.loop-i-test.true r c.put.ensures ∙ c.loop-i.invariant.3,
+      words_step _ _ _ _ _ _ _ _ _ c.loop-i-test.true r c.put.ensures ∙ c.loop-i.invariant.2,
     )
 
-pub shape_of-out : goal.shape_of-out
-shape_of-out c = c.loop-i.invariant.2
-
 pub returns : goal.returns
-returns c = sym (words_end _ _ _ _ _ _ c.loop-i-test.false) ∙ c.loop-i.invariant.3
+returns c = sym (words_end _ _ _ _ _ _ c.loop-i-test.false) ∙ c.loop-i.invariant.2
