@@ -7,8 +7,6 @@ use native.Mathlib.Omega.{arith}
 use lib.Dec.{eqb}
 use Rattle.sflow.specs.Grammar.{fixed, Value}
 use Rattle.xdr.specs.Items.{items_at, numbers_at}
-use Rattle.xdr.specs.declared.RunRead.{RunRead}
-use Rattle.xdr.specs.declared.RunRead.TheVariants.{Run, CutRun}
 use Rattle.xdr.proofs.Runs.{items_read}
 use Rattle.sflow.specs.Decode.{Decoded, found, refused, and_then, mapped, fixed_items, decode}
 use Rattle.sflow.specs.Datagram.{flow_sample, counters_type, counters_sample, sample_type}
@@ -18,17 +16,19 @@ use Rattle.reader.specs.declared.sample.CountersSample.{CountersSample}
 use Rattle.reader.specs.declared.sample.Sample.{Sample}
 use Rattle.reader.specs.declared.sample.SampleValues.{SampleValues}
 use Rattle.reader.specs.declared.sample.SampleValues.TheVariants.{Flow, Counters}
-use Rattle.reader.specs.declared.sample.SampleRead.{SampleRead}
-use Rattle.reader.specs.declared.sample.SampleRead.TheVariants.{Found, Refused}
 use Rattle.reader.specs.Samples.{counters_of, sample_by, sample_of, as_sample}
+use Rattle.std.specs.Prelude.{Result, Ok, Err}
+use Rattle.xdr.specs.declared.Cut.{Cut}
+use Rattle.std.specs.Prelude.{Result, Ok, Err}
+use Rattle.sflow.specs.declared.Refused.{Refused}
 
 abbrev PlacedValues : SampleValues → Type 0
 PlacedValues (Flow x) = Unit {0}
 PlacedValues (Counters x) = 4 ≤ x.counters.at
 
-abbrev Placed : SampleRead → Type 0
-Placed (Found x next) = PlacedValues x.values
-Placed (Refused why p) = Unit {0}
+abbrev Placed : Result (Sample × ℕ) Refused → Type 0
+Placed (Ok r) = PlacedValues r.0.values
+Placed (Err r) = Unit {0}
 
 placed_by : (at : ℕ) (is1 is2 : Bool) (v : Value (cond is1 flow_sample (cond is2 counters_sample (fixed [])))) → PlacedValues (sample_by at is1 is2 v)
 placed_by at true is2 v = tt
@@ -41,7 +41,7 @@ placed at (refused why p) = tt
 
 -- the version word's 4 octets lie before the first counter
 pub version_word : (at : ℕ) (d : Decoded (Value sample_type)) (x : Sample) (next : ℕ) (c : CountersSample)
-    → as_sample at (mapped (sample_of at) d) ≡ Found x next → x.values ≡ Counters c → 4 ≤ c.counters.at
+    → as_sample at (mapped (sample_of at) d) ≡ Ok (x, next) → x.values ≡ Counters c → 4 ≤ c.counters.at
 version_word at d x next c e f = subst PlacedValues f (subst Placed e (placed at d))
 
 -- ---- the counters that are reported are those of the sample that was found
@@ -63,11 +63,11 @@ behind_words : (s : List ℕ) (at : ℕ) (vs : List ℕ) (d : Decoded (Value cou
 behind_words s at vs (found w end) e = e
 behind_words s at vs (refused why p) e = tt
 
-behind_run : (s : List ℕ) (at : ℕ) (r : RunRead) → items_at s at words ≡ r
+behind_run : (s : List ℕ) (at : ℕ) (r : Result ℕ Cut) → items_at s at words ≡ r
     → Behind s at (and_then (fixed_items (numbers_at s at words) r) λ v next. and_then (decode counters_type s next) λ w end. found (v, w) end)
-behind_run s at (Run next) e =
+behind_run s at (Ok next) e =
     rw (items_read s at words next e).next_is (behind_words s at (numbers_at s at words) (decode counters_type s (at + 12)) refl)
-behind_run s at (CutRun p) e = tt
+behind_run s at (Err c) e = tt
 
 behind : (s : List ℕ) (at : ℕ) → Behind s at (decode counters_sample s at)
 behind s at = rw (then_is (fixed words) counters_type s at, fixed_is s at words) (behind_run s at (items_at s at words) refl)

@@ -7,20 +7,22 @@ use borrow.Author.Tests.{eq-eqb, ne_eqb, lt-ltb, le-ltb}
 use Rattle.sflow.specs.Decode.{Decoded, found, refused, mapped, decode}
 use Rattle.sflow.specs.Datagram.{sample_type}
 use Rattle.reader.specs.declared.sample.SampleValues.{SampleValues}
-use Rattle.reader.specs.declared.sample.SampleRead.{SampleRead}
 use Rattle.reader.specs.declared.datagram.Cursor.{Cursor}
-use Rattle.reader.specs.declared.datagram.Step.{Step}
+use Rattle.std.specs.Prelude.{Option}
+use Rattle.reader.specs.declared.sample.Sample.{Sample}
 use Rattle.reader.specs.Samples.{sample_of, as_sample}
 use Rattle.reader.specs.Datagrams.{stepped, step_at}
 use Rattle.numbers.specs.Reports.{decoded_report}
 use Rattle.sample_calls.specs.SampleReports.{sample_report, step_report, numbers_between, sample_found, StepTold}
+use Rattle.std.specs.Prelude.{Result}
+use Rattle.sflow.specs.declared.Refused.{Refused}
 
 view_told : (s : List ℕ) (at : ℕ) (d : Decoded SampleValues) → sample_report s (as_sample at d) ≡ decoded_report (numbers_between s at) d
 view_told s at (found v next) = refl
 view_told s at (refused why p) = refl
 
 -- `reader::sample::read_sample`
-pub sample_told : (s : List ℕ) (at : ℕ) (r : SampleRead) → r ≡ as_sample at (mapped (sample_of at) (decode sample_type s at)) → sample_report s r ≡ sample_found s at
+pub sample_told : (s : List ℕ) (at : ℕ) (r : Result (Sample × ℕ) Refused) → r ≡ as_sample at (mapped (sample_of at) (decode sample_type s at)) → sample_report s r ≡ sample_found s at
 sample_told s at r e = ap (sample_report s) e ∙ view_told s at (mapped (sample_of at) (decode sample_type s at))
 
 -- ---- the walk
@@ -30,7 +32,7 @@ step_told s at left (found v next) = refl
 step_told s at left (refused why p) = refl
 
 -- `reader::datagram::next_sample`
-pub next_sample_told : (s : List ℕ) (c : Cursor) (r : Step) → r ≡ step_at s c → StepTold s c r
+pub next_sample_told : (s : List ℕ) (c : Cursor) (r : Result (Option (Sample × Cursor)) Refused) → r ≡ step_at s c → StepTold s c r
 unfolding step_at
 next_sample_told s c r e =
     record {

@@ -1,5 +1,6 @@
 -- The answers of reading a sample as numbers.
-use Rattle.std.specs.Prelude.{ℕ, ◌-◌, ◌≤◌, ◌<◌, ◌≡◌, ◌≢◌, length, List, [], ◌∷◌, ◌++◌}
+use Rattle.std.specs.Prelude.{ℕ, ◌-◌, ◌≤◌, ◌<◌, ◌≡◌, ◌≢◌, length, List, [], ◌∷◌, ◌++◌, Result, Ok, Err, Option, Some, None}
+use Rattle.sflow.specs.declared.Refused.{Refused}
 use Rattle.sflow.specs.Decode.{mapped, decode}
 use Rattle.sflow.specs.Datagram.{counters_type, sample_type}
 use Rattle.packet_data.specs.declared.PacketData.{PacketData}
@@ -11,10 +12,6 @@ use Rattle.reader.specs.declared.sample.CountersSample.{CountersSample}
 use Rattle.reader.specs.declared.sample.SampleValues.{SampleValues}
 use Rattle.reader.specs.declared.sample.SampleValues.TheVariants.{Flow, Counters}
 use Rattle.reader.specs.declared.sample.Sample.{Sample}
-use Rattle.reader.specs.declared.sample.SampleRead.{SampleRead}
-use Rattle.reader.specs.declared.sample.SampleRead.TheVariants.{Found as FoundSample, Refused as RefusedSample}
-use Rattle.reader.specs.declared.datagram.Step.{Step}
-use Rattle.reader.specs.declared.datagram.Step.TheVariants.{Found as FoundStep, End, Refused as RefusedStep}
 use Rattle.reader.specs.declared.datagram.Cursor.{Cursor}
 use Rattle.reader.specs.Samples.{sample_of}
 use Rattle.numbers.specs.Reports.{Report, report, refusal_report, decoded_report}
@@ -69,15 +66,15 @@ abbrev pub placed_numbers : List ℕ → Sample → List ℕ
 placed_numbers s x = sample_kind x.values ∷ x.offset ∷ x.length ∷ sample_numbers s x.values
 
 -- 0; the numbers of a sample of these octets
-abbrev pub sample_report : List ℕ → SampleRead → Report
-sample_report s (FoundSample x next) = report 0 (placed_numbers s x)
-sample_report s (RefusedSample why p) = refusal_report why p
+abbrev pub sample_report : List ℕ → Result (Sample × ℕ) Refused → Report
+sample_report s (Ok r) = report 0 (placed_numbers s r.0)
+sample_report s (Err r) = refusal_report r.why r.at
 
 -- a step of the walk over the samples of these octets: 0 and the numbers of the sample; behind the last sample 0 and none; a refusal as ever
-abbrev pub step_report : List ℕ → Step → Report
-step_report s (FoundStep x c) = report 0 (placed_numbers s x)
-step_report s End = report 0 []
-step_report s (RefusedStep why p) = refusal_report why p
+abbrev pub step_report : List ℕ → Result (Option (Sample × Cursor)) Refused → Report
+step_report s (Ok (Some r)) = report 0 (placed_numbers s r.0)
+step_report s (Ok None) = report 0 []
+step_report s (Err r) = refusal_report r.why r.at
 
 -- ---- the same by what reading finds
 
@@ -90,7 +87,7 @@ abbrev pub sample_found : List ℕ → ℕ → Report
 sample_found s at = decoded_report (numbers_between s at) (mapped (sample_of at) (decode sample_type s at))
 
 -- A step of the walk from a cursor, in numbers: the sample there, found or refused, where one is left; else the end, or 13 where octets lie behind it.
-pub record StepTold (s : List ℕ) (c : Cursor) (r : Step) : Type 0 where
+pub record StepTold (s : List ℕ) (c : Cursor) (r : Result (Option (Sample × Cursor)) Refused) : Type 0 where
   pub a_sample : c.left ≢ 0 → step_report s r ≡ sample_found s c.at
   pub the_end : c.left ≡ 0 → length s ≤ c.at → step_report s r ≡ report 0 []
   pub trailing : c.left ≡ 0 → c.at < length s → step_report s r ≡ report 13 (c.at ∷ [])

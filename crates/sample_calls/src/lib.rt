@@ -7,7 +7,6 @@ ghost use Rattle.sflow.specs.Datagram.{sample_type};
 ghost use Rattle.packet_data.specs.declared.PacketData.TheVariants.{Ipv6};
 ghost use Rattle.reader.specs.Samples.{sample_of, as_sample};
 ghost use Rattle.numbers.specs.Reports.{filled, filled_behind, tell};
-ghost use Rattle.numbers.specs.Addresses.{quad_numbers};
 ghost use Rattle.sample_calls.specs.SampleReports.{
   packet_type,
   packet_numbers,
@@ -17,10 +16,9 @@ ghost use Rattle.sample_calls.specs.SampleReports.{
   sample_report,
 };
 
-use fields::address::Quad;
 use numbers::{fill, fill_behind, refuse};
 use packet_data::{PacketData, SampledIpv6};
-use reader::sample::{CountersSample, FlowSample, FlowWords, SampleRead, SampleValues};
+use reader::sample::{CountersSample, FlowSample, FlowWords, SampleValues};
 
 // The packet data type, 1 to 3.
 fn packet_type(p: PacketData) -> u64
@@ -33,26 +31,24 @@ fn packet_type(p: PacketData) -> u64
     }
 }
 
-// Puts four words behind the first n numbers of an array.
-fn fill_quad(q: Quad, n: usize, out: &mut [u64])
-    ensures { out.new ≡ filled_behind n (quad_numbers q) out.old }
-{
-    fill_behind(out, n, &[q.a as u64, q.b as u64, q.c as u64, q.d as u64]);
-}
-
 // Puts the numbers of IPv6 packet data behind the first 13 of an array.
 fn fill_ipv6(x: SampledIpv6, out: &mut [u64])
     ensures { out.new ≡ filled_behind 13 (packet_numbers (Ipv6 x)) out.old }
 {
-    let source = x.src_ip;
-    let destination = x.dst_ip;
-    fill_behind(out, 13, &[x.length as u64, x.protocol as u64]);
-    fill_quad(source, 15, out);
-    fill_quad(destination, 19, out);
     fill_behind(
         out,
-        23,
+        13,
         &[
+            x.length as u64,
+            x.protocol as u64,
+            x.src_ip.a as u64,
+            x.src_ip.b as u64,
+            x.src_ip.c as u64,
+            x.src_ip.d as u64,
+            x.dst_ip.a as u64,
+            x.dst_ip.b as u64,
+            x.dst_ip.c as u64,
+            x.dst_ip.d as u64,
             x.src_port as u64,
             x.dst_port as u64,
             x.tcp_flags as u64,
@@ -166,10 +162,9 @@ pub fn sample(octets: &[u8], at: usize, out: &mut [u64]) -> u32
         ≡ tell (sample_report octets.now (as_sample at (mapped (sample_of at) (decode sample_type octets.now at)))) out.old }
 {
     match reader::sample::read_sample(octets, at) {
-        SampleRead::Refused(why, p) => refuse(why, p, out),
-        SampleRead::Found(x, _) => {
-            let values = x.values;
-            match values {
+        Err(refused) => refuse(refused, out),
+        Ok((x, _)) => {
+            match x.values {
                 SampleValues::Flow(f) => fill_flow(x.offset, x.length, f, out),
                 SampleValues::Counters(c) => fill_counters(octets, x.offset, x.length, c, out),
             }
