@@ -1,12 +1,13 @@
 -- The steps of the engine's state are the machine's. Assumes nothing.
-use Prim.Native.Nat.{ℕ, ◌+◌, ◌≤◌}
+use Prim.Native.Nat.{ℕ, ◌+◌, ◌^◌, ◌≤◌, ◌<◌}
 use native.Mathlib.Omega.{arith}
 use mathlib.Core.Path.{◌≡◌, refl, ap}
 use mathlib.Core.List.{List, [], ◌∷◌}
 use mathlib.Core.Bool.{Bool, true, false, not, cond, ◌&&◌}
+use lib.Bits.{bit_and}
 use lib.ListN.{length, get_or, drop}
-use lib.Dec.{ltb}
-use borrow.Author.Tests.{le-leb}
+use lib.Dec.{eqb, ltb}
+use borrow.Author.Tests.{le-leb, ne_eqb}
 use Rattle.rules.specs.declared.Rule.{Rule}
 use Rattle.rules.specs.declared.Action.{Action}
 use Rattle.rules.specs.declared.Action.TheVariants.{Unknown, Ignore, NoMatch, Count, CountPkt, Return, Gosub, Goto, PushRule, PushPkt, PopTo}
@@ -14,8 +15,15 @@ use Rattle.rules.specs.declared.MachineAnswer.TheVariants as Answer
 use Rattle.rules.specs.Opcodes.{action_of}
 use Rattle.rules.specs.Machine.{Outcome, ended, passes, rule_item, packet_item, goes, comes_back, drops, act, fails, step}
 use Rattle.rules.specs.Room.{Room}
+use Rattle.rules.proofs.Bits.{masked_is}
 use Rattle.engine.specs.declared.EngineState.{EngineState}
 use Rattle.engine.specs.EngineStates.{queues_packet, item_of, queued, state_of, outcome_by, holding, goes_of, ends_of, acted_of, failed_of, Live}
+
+-- ---- the test of a rule, with the language's `&`
+
+pub mask_test : (r : Rule) (v : ℕ) → v < 2 ^ 32 → (r.attribute ≡ 0 → ⊥) → eqb (bit_and v r.mask) r.value ≡ passes r v
+unfolding passes
+mask_test r v h n = rw (ne_eqb r.attribute 0 n, masked_is 32 v r.mask h)
 
 -- ---- actions
 
