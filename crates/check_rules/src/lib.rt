@@ -16,11 +16,13 @@ use rules::{
 // The mark of a rule record, 52 75.
 const MARK: u32 = 0x5275;
 
-// Whether a rule may test an attribute.
+// The attributes that a rule may test.
+const ATTRIBUTES: [u8; 11] = [0, 4, 8, 9, 11, 12, 14, 18, 19, 21, 22];
+
 fn is_known(attribute: u8) -> bool
     ensures { result ≡ known attribute }
 {
-    matches!(attribute, 0 | 4 | 8 | 9 | 11 | 12 | 14 | 18 | 19 | 21 | 22)
+    ATTRIBUTES.contains(&attribute)
 }
 
 fn is_bad_opcode(opcode: u8) -> bool
@@ -110,20 +112,20 @@ fn is_bad_target(action: Action, n: usize, i: usize, parameter: usize) -> bool
 }
 
 // Refusals 34 to 37, but for the Gosubs of a Return.
-fn check_alone(n: usize, i: usize, rule: Rule, declared: Declared) -> Result<(), CheckRefusal>
-    ensures { result ≡ alone_of n i rule declared }
+fn check_alone(n: usize, i: usize, own: RuleRecord, action: Action) -> Result<(), CheckRefusal>
+    requires { action ≡ action_of own.rule.opcode }
+    ensures { result ≡ alone_of n i own.rule own.declared }
 {
-    let action = rules::action_of(rule.opcode);
-    if is_over_limits(declared) {
+    if is_over_limits(own.declared) {
         return Err(CheckRefusal::Limits);
     }
-    if is_bad_first(i, declared) {
+    if is_bad_first(i, own.declared) {
         return Err(CheckRefusal::FirstRule);
     }
-    if is_return_in_main(action, declared.home) {
+    if is_return_in_main(action, own.declared.home) {
         return Err(CheckRefusal::ReturnInMain);
     }
-    if is_bad_target(action, n, i, rule.parameter) {
+    if is_bad_target(action, n, i, own.rule.parameter) {
         return Err(CheckRefusal::Target);
     }
     Ok(())
@@ -140,24 +142,26 @@ fn is_aimed(gosub: Rule, home: usize) -> bool
 
 // Whether rule g of n is a Gosub aimed at a Return's home, and the Return comes back from it at no rule.
 fn comes_back_nowhere(s: &[u8], n: usize, back: RuleRecord, g: usize) -> bool
-    requires { g ≤ n }
+    requires count { n ≡ rule_count s.now }
+    requires there { (1 ≤ g) × (g ≤ n) }
     ensures { result ≡ comes_back_nowhere n (rule_of s.now) (declared_of s.now) back.declared.home back.rule.parameter g }
 {
-    let call = rules::record_at(s, g);
+    let call = rules::record_of(s, g);
     is_aimed(call.rule, back.declared.home) && n - g < back.rule.parameter
 }
 
 // Whether rule g is a Gosub aimed at a Return's home, and the rule that the Return comes back to declares otherwise.
 fn comes_back_otherwise(s: &[u8], back: RuleRecord, g: usize) -> bool
-    requires { comes_back_nowhere (rule_count s.now) (rule_of s.now) (declared_of s.now) back.declared.home back.rule.parameter g ≡ false }
+    requires there { (1 ≤ g) × (g ≤ rule_count s.now) }
+    requires somewhere { comes_back_nowhere (rule_count s.now) (rule_of s.now) (declared_of s.now) back.declared.home back.rule.parameter g ≡ false }
     ensures { result ≡ comes_back_otherwise (rule_count s.now) (rule_of s.now) (declared_of s.now)
         back.declared.home back.rule.parameter back.declared.held g }
 {
-    let call = rules::record_at(s, g);
+    let call = rules::record_of(s, g);
     if !is_aimed(call.rule, back.declared.home) {
         return false;
     }
-    let target = rules::record_at(s, g + back.rule.parameter);
+    let target = rules::record_of(s, g + back.rule.parameter);
     let here = call.declared;
     declares_otherwise(
         target.declared,
@@ -168,10 +172,12 @@ fn comes_back_otherwise(s: &[u8], back: RuleRecord, g: usize) -> bool
 }
 
 // Whether a rule is a Return that comes back at no rule from some Gosub aimed at its home.
-fn returns_nowhere(s: &[u8], n: usize, back: RuleRecord) -> bool
+fn returns_nowhere(s: &[u8], n: usize, back: RuleRecord, action: Action) -> bool
+    requires count { n ≡ rule_count s.now }
+    requires own { action ≡ action_of back.rule.opcode }
     ensures { result ≡ returns_nowhere n (rule_of s.now) (declared_of s.now) back.rule back.declared }
 {
-    if !is_return(rules::action_of(back.rule.opcode)) {
+    if !is_return(action) {
         return false;
     }
     for g in 1..=n {
@@ -183,12 +189,13 @@ fn returns_nowhere(s: &[u8], n: usize, back: RuleRecord) -> bool
 }
 
 // Whether a rule is a Return, and the rule that it comes back to from some Gosub aimed at its home declares otherwise.
-fn return_differs(s: &[u8], n: usize, back: RuleRecord) -> bool
+fn return_differs(s: &[u8], n: usize, back: RuleRecord, action: Action) -> bool
     requires count { n ≡ rule_count s.now }
+    requires own { action ≡ action_of back.rule.opcode }
     requires somewhere { returns_nowhere n (rule_of s.now) (declared_of s.now) back.rule back.declared ≡ false }
     ensures { result ≡ return_differs n (rule_of s.now) (declared_of s.now) back.rule back.declared }
 {
-    if !is_return(rules::action_of(back.rule.opcode)) {
+    if !is_return(action) {
         return false;
     }
     for h in 1..=n {
@@ -271,16 +278,25 @@ fn target_differs(s: &[u8], own: RuleRecord, action: Action) -> bool
 }
 
 // Refusals 38 and 39 of rule i of n.
-fn check_rest(s: &[u8], n: usize, i: usize, own: RuleRecord) -> Result<(), CheckRefusal>
+fn check_rest(
+    s: &[u8],
+    n: usize,
+    i: usize,
+    own: RuleRecord,
+    action: Action,
+) -> Result<(), CheckRefusal>
     requires count { n ≡ rule_count s.now }
+    requires own { action ≡ action_of own.rule.opcode }
     requires somewhere { returns_nowhere n (rule_of s.now) (declared_of s.now) own.rule own.declared ≡ false }
     ensures { result ≡ rest_of n (rule_of s.now) (declared_of s.now) i own.rule own.declared }
 {
-    let action = rules::action_of(own.rule.opcode);
     if is_bad_queue(action, own.declared.held) {
         return Err(CheckRefusal::Queue);
     }
-    if next_differs(s, n, i, own) || target_differs(s, own, action) || return_differs(s, n, own) {
+    if next_differs(s, n, i, own)
+        || target_differs(s, own, action)
+        || return_differs(s, n, own, action)
+    {
         return Err(CheckRefusal::Successor);
     }
     Ok(())
@@ -288,16 +304,18 @@ fn check_rest(s: &[u8], n: usize, i: usize, own: RuleRecord) -> Result<(), Check
 
 // Refusals 31 to 39 of rule i of n.
 fn check_rule(s: &[u8], n: usize, i: usize) -> Result<(), CheckRefusal>
-    requires { n ≡ rule_count s.now }
+    requires count { n ≡ rule_count s.now }
+    requires there { (1 ≤ i) × (i ≤ n) }
     ensures { result ≡ rule_check s.now i }
 {
-    let own = rules::record_at(s, i);
+    let own = rules::record_of(s, i);
     check_form(own.mark, own.rule.attribute, own.rule.opcode)?;
-    check_alone(n, i, own.rule, own.declared)?;
-    if returns_nowhere(s, n, own) {
+    let action = rules::action_of(own.rule.opcode);
+    check_alone(n, i, own, action)?;
+    if returns_nowhere(s, n, own, action) {
         return Err(CheckRefusal::Target);
     }
-    check_rest(s, n, i, own)
+    check_rest(s, n, i, own, action)
 }
 
 // ---- the rule set

@@ -10,5 +10,5 @@ unfolding returns_nowhere
 returns-then-comes_back_nowhere c =
     let a = c.args in
     some_here (nowhere_from a.s.now a.n a.back) c.loop-g.g (omega arith) _
-    (ap is_return (sym c.action_of.ensures) ∙ sym c.is_return.ensures ∙ c.if-not-is_return.false) a.n (omega arith)
+    (ap is_return (sym c.requires.own) ∙ sym c.is_return.ensures ∙ c.if-not-is_return.false) a.n (omega arith)
     (sym c.comes_back_nowhere.ensures ∙ c.if-comes_back_nowhere.true)

@@ -1,5 +1,5 @@
 use mathlib.Core.Path.{◌∙◌}
-use Rattle.rules.proofs.Records.{no_zeroth, none_behind, record_joined, mark_read}
+use Rattle.rules.proofs.Records.{no_zeroth, none_behind}
 use Rattle.rules.proofs.record_at.Goals as goal
 use Rattle.rules.proofs.record_at.Goals.{then-i-lt1-via-then-i-lt1, then-i-lt1-via-else-i-lt1+then-rule_count-i}
 
@@ -12,10 +12,3 @@ returns-then-i-lt1 c =
           let few = w.rule_count.ensures in
           none_behind c.args.s.now c.args.i w.if-i-lt1.false (rw few at w.if-rule_count-i.true)
     ]
-
-pub returns : goal.returns
-returns c =
-    let count = c.rule_count.ensures in
-    record_joined c.args.s.now c.args.i c.if-i-lt1.false (rw count at c.if-rule_count-i.false)
-    (record { mark = c.pair_of-mark.result; rule = c.rule_in-rule.result; declared = c.declared_in-declared.result })
-    (c.pair_of-mark.ensures ∙ mark_read c.args.s.now _) c.rule_in-rule.ensures c.declared_in-declared.ensures
