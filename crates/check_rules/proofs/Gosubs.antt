@@ -1,60 +1,36 @@
--- A Return and a Gosub that may be aimed at its home. Assumes nothing.
-use Prim.Native.Nat.{ℕ, ◌+◌, ◌-◌, ◌≤◌, ◌<◌}
+-- A Return and all Gosubs, looked at one behind the other. Assumes nothing.
+use Prim.Native.Nat.{ℕ, suc, ◌+◌, ◌-◌, ◌≤◌}
 use native.Mathlib.Omega.{arith}
-use native.Mathlib.Numerals.{add-one}
 use mathlib.Core.Path.{◌≡◌, refl, sym, ◌∙◌}
-use mathlib.Core.Bool.{Bool, true, false, not, ◌&&◌}
-use lib.Dec.{ltb, leb, eqb}
-use borrow.Author.Tests.{ltb-true, ltb-false, leb-true, lt-ltb, le-ltb, not-false}
-use Rattle.rules.specs.declared.Rule.{Rule}
-use Rattle.rules.specs.declared.Declared.{Declared}
+use mathlib.Core.List.{List}
+use mathlib.Core.Bool.{Bool, true, false, ◌&&◌}
 use Rattle.rules.specs.declared.RuleRecord.{RuleRecord}
-use Rattle.rules.specs.Opcodes.{action_of, is_gosub}
-use Rattle.rules.specs.Checks.{any_up_to, differs, aims, comes_back_nowhere, comes_back_otherwise}
+use Rattle.rules.specs.Records.{rule_of, declared_of}
+use Rattle.rules.specs.Checks.{any_up_to, comes_back_nowhere, comes_back_otherwise}
 use Rattle.rules.proofs.Tests.{and_false, some_false}
-use Rattle.check_rules.proofs.Records.{not_leb}
 
-room : (n g p : ℕ) → g ≤ n → ltb (n - g) p ≡ not (leb (g + p) n)
-room n g p h = go (ltb (n - g) p) refl ∙ sym (not_leb (g + p) n)
-  where
-    go : (t : Bool) → ltb (n - g) p ≡ t → t ≡ ltb n (g + p)
-    go true e = let l : n - g < p = ltb-true (n - g) p e in sym (lt-ltb n (g + p) (omega arith))
-    go false e = let l : p ≤ n - g = ltb-false (n - g) p e in sym (le-ltb n (g + p) (omega arith))
+-- the Gosubs from which a Return, by its record, comes back at no rule of n, and at one that declares otherwise
+module _ (s : List ℕ) (n : ℕ) (x : RuleRecord) where
+  abbrev pub nowhere_from : ℕ → Bool
+  nowhere_from = comes_back_nowhere n (rule_of s) (declared_of s) x.declared.home x.rule.parameter
 
--- rule g, as it is read, and whether it is a Gosub aimed at a home
-module _ (at : ℕ → RuleRecord) (home g : ℕ) (x : RuleRecord) (a : Bool) (e : x ≡ at g) (f : a ≡ (is_gosub (action_of x.rule.opcode) && eqb x.rule.parameter home)) where
-  abbrev rule : ℕ → Rule
-  rule i = (at i).rule
+  abbrev pub otherwise_from : ℕ → Bool
+  otherwise_from = comes_back_otherwise n (rule_of s) (declared_of s) x.declared.home x.rule.parameter x.declared.held
 
-  abbrev declared : ℕ → Declared
-  declared i = (at i).declared
+module _ (f : ℕ → Bool) (g : ℕ) (low : 1 ≤ g) where
+  -- rule g passes no test, as those before it
+  pub none_more : any_up_to f (g - 1) ≡ false → f g ≡ false → any_up_to f (g + 1 - 1) ≡ false
+  none_more none here = let back : g + 1 - 1 ≡ suc (g - 1) = omega arith in let there : suc (g - 1) ≡ g = omega arith in rw (back, none, there) here
 
-  aimed : (n : ℕ) → a ≡ aims n rule declared home g
-  aimed n = rw (f, e) refl
+  module _ (returns : Bool) (is : returns ≡ true) (n : ℕ) (high : g ≤ n) where
+    -- rule g of n passes a test
+    pub some_here : f g ≡ true → true ≡ (returns && any_up_to f n)
+    some_here here = rw is (go (any_up_to f n) refl)
+      where
+        go : (b : Bool) → any_up_to f n ≡ b → true ≡ b
+        go true e = refl
+        go false e = sym here ∙ some_false f n e g low high
 
-  -- what is asked of no rule that is not
-  pub not_aimed : (n : ℕ) (b : Bool) → a ≡ false → false ≡ (aims n rule declared home g && b)
-  not_aimed n b h = rw (sym (aimed n) ∙ h) refl
-
-  -- a Return comes back from g to rule g + p: there is one, or not
-  pub nowhere_is : (n p : ℕ) → g ≤ n → a ≡ true → ltb (n - g) p ≡ comes_back_nowhere n rule declared home p g
-  nowhere_is n p l h = rw (sym (aimed n) ∙ h) (room n g p l)
-
-  pub comes_back : (n p : ℕ) → comes_back_nowhere n rule declared home p g ≡ false → a ≡ true → g + p ≤ n
-  comes_back n p k h = leb-true (g + p) n (not-false _ (and_false (aims n rule declared home g) _ k (sym (aimed n) ∙ h)))
-
-  pub otherwise_is : (n p held : ℕ) (y : RuleRecord) → a ≡ true → y ≡ at (g + p)
-      → differs y.declared x.declared.home x.declared.depth held ≡ comes_back_otherwise n rule declared home p held g
-  otherwise_is n p held y h k = rw (sym (aimed n) ∙ h, k, e) refl
-
--- ---- all rules from 1 to n
-
-pub some_more : (f : ℕ → Bool) (g : ℕ) → any_up_to f g ≡ false → f (g + 1) ≡ false → any_up_to f (g + 1) ≡ false
-some_more f g e h = rw (add-one, e) (rw add-one at h)
-
-pub some_here : (f : ℕ → Bool) (n g : ℕ) → 1 ≤ g → g ≤ n → f g ≡ true → any_up_to f n ≡ true
-some_here f n g l h e = go (any_up_to f n) refl
-  where
-    go : (b : Bool) → any_up_to f n ≡ b → b ≡ true
-    go true t = refl
-    go false t = sym (some_false f n t g l h) ∙ e
+    -- none of n passes it
+    pub not_here : (returns && any_up_to f n) ≡ false → f g ≡ false
+    not_here none = some_false f n (and_false returns (any_up_to f n) none is) g low high

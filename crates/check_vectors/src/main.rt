@@ -2,19 +2,14 @@
 // and the rule named. The rule sets and the expected text come from the second program in conformance/.
 #![tactic(auto)]
 
-use rules::CheckAnswer;
 use std::io;
 use std::io::{Read, Write};
 use vector_io::RecordRead;
 
 fn rule_set<W: Write>(out: &mut W, s: &[u8]) -> io::Result<()> {
     match check_rules::check(s) {
-        CheckAnswer::Accepted => vector_io::line(out, b"accepted", &[]),
-        CheckAnswer::Refused(why, rule) => vector_io::refused(
-            out,
-            rules::refusal_number(why),
-            rule,
-        ),
+        Ok(()) => vector_io::line(out, b"accepted", &[]),
+        Err(refused) => vector_io::refused(out, u32::from(refused.why), refused.rule),
     }
 }
 

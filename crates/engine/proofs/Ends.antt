@@ -5,14 +5,13 @@ use mathlib.Core.Path.{◌≡◌, ◌∙◌}
 use mathlib.Core.List.{List}
 use Rattle.rules.specs.declared.Item.{Item}
 use Rattle.rules.specs.declared.MachineAnswer.{MachineAnswer}
-use Rattle.rules.specs.declared.CheckAnswer.TheVariants.{Accepted}
 use Rattle.rules.specs.Records.{rule_count, rule_of}
 use Rattle.rules.specs.Machine.{ended, after}
-use Rattle.rules.specs.Checks.{check}
+use Rattle.rules.specs.Checks.{accepted, check}
 use Rattle.rules.specs.Demand.{bound, EndsAt}
 use Rattle.rules.proofs.Demand.{demand_3, one_end}
 
-module _ (s : List ℕ) (e : check s ≡ Accepted) (at : ℕ → ℕ) where
+module _ (s : List ℕ) (e : check s ≡ accepted) (at : ℕ → ℕ) where
   -- neither running nor stuck
   pub ends_there : EndsAt (rule_count s) (rule_of s) at (bound (rule_count s))
   ends_there = (demand_3 s e at).ends

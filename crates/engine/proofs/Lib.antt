@@ -1,5 +1,4 @@
 pub mod EngineStates
 pub mod Follows
 pub mod Keys
-pub mod Results
 pub mod Ends

@@ -3,44 +3,38 @@
 // the second program in conformance/.
 #![tactic(auto)]
 
-use engine::{EngineAnswer, FlowKey};
+use engine::{ATTRIBUTES, EngineRefusal, FlowKey};
 use std::io;
 use std::io::{Read, Write};
 use vector_io::RecordRead;
 
 // Whether a number is an attribute's.
 fn known(attribute: usize) -> bool {
-    match attribute {
-        4 | 8 | 9 | 11 | 12 | 14 | 18 | 19 | 21 | 22 => true,
-        _ => false,
-    }
+    matches!(attribute, 4 | 8 | 9 | 11 | 12 | 14 | 18 | 19 | 21 | 22)
 }
 
 // The mask and the value of each attribute.
 fn key<W: Write>(out: &mut W, k: FlowKey) -> io::Result<()> {
-    let masks = k.masks;
-    let values = k.values;
-    for i in 0..23 {
+    for i in 0..ATTRIBUTES {
         if known(i) {
-            vector_io::show(out, b"", &[masks[i] as u64, values[i] as u64])?;
+            vector_io::show(out, b"", &[u64::from(k.masks[i]), u64::from(k.values[i])])?;
         }
     }
     vector_io::line(out, b"", &[])
 }
 
 fn pair<W: Write>(out: &mut W, s: &[u8], x: &[u8]) -> io::Result<()> {
-    let r = engine::run(s, x);
-    let answer = r.answer;
-    let number = engine::answer_number(answer);
+    let answer = engine::run(s, x);
+    let number = engine::answer_number(&answer);
     match answer {
-        EngineAnswer::NotOneFlowSample => vector_io::refused(out, number, 0),
-        EngineAnswer::Refused(_, rule) => vector_io::refused(out, number, rule),
-        EngineAnswer::Ended(_) => {
-            vector_io::show(out, b"answer", &[number as u64])?;
-            vector_io::show(out, b" rules", &[r.rules])?;
+        Ok(ended) => {
+            vector_io::show(out, b"answer", &[u64::from(number)])?;
+            vector_io::show(out, b" rules", &[ended.rules])?;
             vector_io::show(out, b" key", &[])?;
-            key(out, r.key)
+            key(out, ended.key)
         }
+        Err(EngineRefusal::NotOneFlowSample) => vector_io::refused(out, number, 0),
+        Err(EngineRefusal::RuleSet(refused)) => vector_io::refused(out, number, refused.rule),
     }
 }
 

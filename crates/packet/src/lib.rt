@@ -1,4 +1,4 @@
-#![tactic(auto)]
+#![tactic(auto, using(std::proofs::lemmas::Bool::Decides::nat_tests), unfolding(crate::specs::Attributes::ports_of, crate::specs::Attributes::ipv4_view, crate::specs::Attributes::header_view, crate::specs::Attributes::packet_view, crate::specs::Attributes::attribute))]
 // The attributes of a flow sample that rules test (document 01, "Attributes of a flow sample"; RFC 2722, Appendix C).
 ghost use Rattle.std.specs.Prelude.{◌≡◌, ◌*◌, ◌+◌, ◌%◌, ◌≤◌, true, ◌||◌, length, eqb};
 ghost use Rattle.fields.specs.Strings.{text_in};
@@ -8,14 +8,14 @@ use fields::strings::Text;
 use packet_data::{PacketData, SampledHeader, SampledIpv4, SampledIpv6};
 use reader::sample::FlowSample;
 
-#[derive(Clone, Copy)]
+#[derive(Clone, Copy, Default)]
 pub struct Ports {
     pub source: u32,
     pub dest: u32,
 }
 
 // A packet's peers and transport: the peers' type is 1 for IPv4, 2 for IPv6, else 0; the protocol is the IP protocol.
-#[derive(Clone, Copy)]
+#[derive(Clone, Copy, Default)]
 pub struct PacketView {
     pub peer_type: u32,
     pub source_address: u32,
@@ -31,39 +31,25 @@ pub struct Attributes {
     pub packet: PacketView,
 }
 
-fn wide(x: u8) -> u32
-    ensures { result ≡ x }
-{
-    x as u32
-}
-
 // A header's length in octets, from its first octet.
 fn size_of(first: u8) -> usize
     ensures { result ≡ first % 16 * 4 }
 {
-    (first % 16) as usize * 4
+    usize::from(first % 16) * 4
 }
 
+// What is neither IPv4 nor IPv6.
 fn no_view() -> PacketView
     ensures { result ≡ no_view }
 {
-    PacketView {
-        peer_type: 0,
-        source_address: 0,
-        dest_address: 0,
-        protocol: 0,
-        ports: Ports { source: 0, dest: 0 },
-    }
+    PacketView::default()
 }
 
 // Whether a protocol has ports: TCP and UDP.
 fn has_ports(protocol: u32) -> bool
     ensures { result ≡ (eqb protocol 6 || eqb protocol 17) }
 {
-    if protocol == 6 {
-        return true;
-    }
-    protocol == 17
+    protocol == 6 || protocol == 17
 }
 
 // The ports behind an IP header of a size.
@@ -71,15 +57,13 @@ fn ports_behind(x: &[u8], protocol: u32, size: usize) -> Ports
     requires { size ≤ length x.now }
     ensures { result ≡ ports_of x.now protocol size }
 {
-    if has_ports(protocol) {
-        if 4 <= x.len() - size {
-            return Ports {
-                source: xdr::pair_of(x[size], x[size + 1]),
-                dest: xdr::pair_of(x[size + 2], x[size + 3]),
-            };
-        }
+    if !has_ports(protocol) || x.len() - size < 4 {
+        return Ports::default();
     }
-    Ports { source: 0, dest: 0 }
+    Ports {
+        source: xdr::pair_of(x[size], x[size + 1]),
+        dest: xdr::pair_of(x[size + 2], x[size + 3]),
+    }
 }
 
 // Whether octets that begin with an IP header count as IPv4.
@@ -89,15 +73,8 @@ fn is_ipv4(x: &[u8]) -> bool
     if x.len() < 20 {
         return false;
     }
-    let first = x[0];
-    let size = size_of(first);
-    if first / 16 != 4 {
-        return false;
-    }
-    if size < 20 {
-        return false;
-    }
-    size <= x.len()
+    let size = size_of(x[0]);
+    x[0] / 16 == 4 && 20 <= size && size <= x.len()
 }
 
 // The fields of an IPv4 header.
@@ -105,7 +82,7 @@ fn ipv4_fields(x: &[u8]) -> PacketView
     requires { (20 ≤ length x.now) × (header_size x.now ≤ length x.now) × (is_ipv4 x.now ≡ true) }
     ensures { result ≡ ipv4_view x.now }
 {
-    let protocol = wide(x[9]);
+    let protocol = u32::from(x[9]);
     let size = size_of(x[0]);
     let ports = ports_behind(x, protocol, size);
     PacketView {
@@ -131,29 +108,18 @@ fn ipv4_view(x: &[u8]) -> PacketView
 fn holds_ipv4(x: &[u8]) -> bool
     ensures { result ≡ holds_ipv4 x.now }
 {
-    if x.len() < 14 {
-        return false;
-    }
-    if x[12] != 8 {
-        return false;
-    }
-    x[13] == 0
+    14 <= x.len() && x[12] == 8 && x[13] == 0
 }
 
 // The octets of a sampled header with its protocol.
 fn header_view(x: &[u8], protocol: u32) -> PacketView
     ensures { result ≡ header_view protocol x.now }
 {
-    if protocol == 1 {
-        if holds_ipv4(x) {
-            return ipv4_view(&x[14..]);
-        }
-        return no_view();
+    match protocol {
+        1 if holds_ipv4(x) => ipv4_view(&x[14..]),
+        11 => ipv4_view(x),
+        _ => no_view(),
     }
-    if protocol == 11 {
-        return ipv4_view(x);
-    }
-    no_view()
 }
 
 // A sampled header whose octets stand at a place; those that are there.
@@ -176,10 +142,7 @@ pub fn packet_view(s: &[u8], packet: PacketData) -> PacketView
     ensures { result ≡ packet_view s.now packet }
 {
     match packet {
-        PacketData::Header(x) => {
-            let t = x.header;
-            header_in(s, x.protocol, t)
-        }
+        PacketData::Header(x) => { header_in(s, x.protocol, x.header) }
         PacketData::Ipv4(x) => PacketView {
             peer_type: 1,
             source_address: x.src_ip,
@@ -207,13 +170,10 @@ pub fn packet_view(s: &[u8], packet: PacketData) -> PacketView
 pub fn attributes_of(s: &[u8], flow: FlowSample) -> Attributes
     ensures { result ≡ attributes_of s.now flow }
 {
-    let words = flow.words;
-    let data = flow.packet_data;
-    let packet = packet_view(s, data);
     Attributes {
-        input: words.input,
-        output: words.output,
-        packet,
+        input: flow.words.input,
+        output: flow.words.output,
+        packet: packet_view(s, flow.packet_data),
     }
 }
 

@@ -7,24 +7,22 @@ use mathlib.Core.List.{List, [], ◌∷◌, ◌++◌}
 use mathlib.Core.Bool.{true, false, true≢false, cond}
 use lib.ListN.{length, get_or, replicate}
 use lib.Dec.{eqb}
+use Rattle.std.specs.Prelude.{Ok, Err}
 use Rattle.rules.specs.declared.CheckRefusal.{CheckRefusal}
 use Rattle.rules.specs.declared.CheckRefusal.TheVariants.{Length, Mark, Attribute, Opcode, Limits, FirstRule, ReturnInMain, Target, Queue, Successor}
 use Rattle.rules.specs.declared.MachineAnswer.{MachineAnswer}
 use Rattle.rules.specs.declared.MachineAnswer.TheVariants.{Ignore, NoMatch, Count, CountPkt}
-use Rattle.rules.specs.declared.CheckAnswer.{CheckAnswer}
-use Rattle.rules.specs.declared.CheckAnswer.TheVariants.{Accepted, Refused}
 use Rattle.rules.specs.Opcodes.{machine_number}
 use Rattle.rules.specs.Records.{rule_count, rule_of}
 use Rattle.rules.specs.Machine.{Outcome, running, ended, stuck, after}
-use Rattle.rules.specs.Checks.{check_number, bad_length, check, breaks, FirstToBreak}
+use Rattle.rules.specs.Checks.{CheckAnswer, accepted, refused, check_number, bad_length, check, breaks, FirstToBreak}
 use Rattle.rules.specs.Demand.{bound}
 use Rattle.rules.proofs.Answers.{no_items}
 use Rattle.rules.proofs.CheckAnswers.{check_accepts_exactly, check_refuses_exactly}
 use Rattle.reader.specs.declared.sample.FlowSample.{FlowSample}
 use Rattle.packet.specs.Attributes.{attributes_of, attribute}
 use Rattle.engine.specs.declared.FlowKey.{FlowKey}
-use Rattle.engine.specs.declared.EngineResult.{EngineResult}
-use Rattle.engine.specs.Results.{engine_number, zero_key, key_of, result_of, Sampled, flow, other, flow_in, of_sample, of_check, engine_of}
+use Rattle.engine.specs.Results.{EngineAnswer, engine_number, key_in, zero_key, key_of, result_of, Sampled, flow, other, flow_in, of_sample, of_check, engine_of}
 use Rattle.engine.proofs.Ends.{ends_there, ends_alike}
 use Rattle.numbers.specs.Reports.{Report, report}
 use Rattle.rule_calls.specs.RuleSets.{check_report, engine_report, CheckTold, RunTold}
@@ -37,9 +35,9 @@ refusal_with n =
     (cond (eqb n 35) FirstRule (cond (eqb n 36) ReturnInMain (cond (eqb n 37) Target (cond (eqb n 38) Queue Successor))))))))
 
 abbrev answer_told : Report → CheckAnswer
-answer_told t = cond (eqb t.number 0) Accepted (Refused (refusal_with t.number) (get_or t.numbers 0 0))
+answer_told t = cond (eqb t.number 0) accepted (refused (refusal_with t.number) (get_or t.numbers 0 0))
 
-refusal_again : (why : CheckRefusal) (i : ℕ) (xs : List ℕ) → answer_told (report (check_number why) (i ∷ xs)) ≡ Refused why i
+refusal_again : (why : CheckRefusal) (i : ℕ) (xs : List ℕ) → answer_told (report (check_number why) (i ∷ xs)) ≡ refused why i
 refusal_again Length i xs = refl
 refusal_again Mark i xs = refl
 refusal_again Attribute i xs = refl
@@ -52,8 +50,8 @@ refusal_again Queue i xs = refl
 refusal_again Successor i xs = refl
 
 told_again : (v : CheckAnswer) → answer_told (check_report v) ≡ v
-told_again Accepted = refl
-told_again (Refused why i) = refusal_again why i []
+told_again (Ok x) = refl
+told_again (Err r) = refusal_again r.why r.rule []
 
 told_once : (v w : CheckAnswer) → check_report v ≡ check_report w → v ≡ w
 told_once v w e = sym (told_again v) ∙ ap answer_told e ∙ told_again w
@@ -75,14 +73,14 @@ module _ (s : List ℕ) where
 
   by_length : (check_report (check s) ≡ report 30 (0 ∷ [])) ↔ (bad_length (length s) ≡ true)
   by_length = (
-    λ e. for_length Length ((check_refuses_exactly s Length 0).0 (told_once (check s) (Refused Length 0) e)),
+    λ e. for_length Length ((check_refuses_exactly s Length 0).0 (told_once (check s) (refused Length 0) e)),
     λ b. ap check_report ((check_refuses_exactly s Length 0).1 (inl (b, refl, refl))),
   )
 
   by_rule : (why : CheckRefusal) (i : ℕ) → 1 ≤ i
       → (check_report (check s) ≡ report (check_number why) (i ∷ [])) ↔ ((bad_length (length s) ≡ false) × FirstToBreak s why i)
   by_rule why i l = (
-    λ e. for_rule why i l ((check_refuses_exactly s why i).0 (told_once (check s) (Refused why i) e)),
+    λ e. for_rule why i l ((check_refuses_exactly s why i).0 (told_once (check s) (refused why i) e)),
     λ h. ap check_report ((check_refuses_exactly s why i).1 (inr h)),
   )
 
@@ -100,12 +98,12 @@ module _ (s : List ℕ) where
   thirty Successor e = absurd (omega (arith, e))
 
   length_alone : (v : CheckAnswer) → check s ≡ v → (check_report v).number ≡ 30 → bad_length (length s) ≡ true
-  length_alone Accepted e n = absurd (omega (arith, n))
-  length_alone (Refused why i) e n = go ((check_refuses_exactly s why i).0 e)
+  length_alone (Ok x) e n = absurd (omega (arith, n))
+  length_alone (Err r) e n = go ((check_refuses_exactly s r.why r.rule).0 e)
     where
-      go : Given why i → bad_length (length s) ≡ true
+      go : Given r.why r.rule → bad_length (length s) ≡ true
       go (inl h) = h.0
-      go (inr h) = absurd (true≢false (sym h.1.lowest.broken ∙ ap (breaks s i) (thirty why n)))
+      go (inr h) = absurd (true≢false (sym h.1.lowest.broken ∙ ap (breaks s r.rule) (thirty r.why n)))
 
   told_of_check : CheckTold s (check_report (check s))
   told_of_check =
@@ -113,7 +111,7 @@ module _ (s : List ℕ) where
         by_length = by_length;
         length_alone = length_alone (check s) refl;
         by_rule = by_rule;
-        accepted = (λ e. (check_accepts_exactly s).0 (told_once (check s) Accepted e), λ h. ap check_report ((check_accepts_exactly s).1 h));
+        accepted = (λ e. (check_accepts_exactly s).0 (told_once (check s) accepted e), λ h. ap check_report ((check_accepts_exactly s).1 h));
       }
 
 -- for every answer that meets the contract of the check
@@ -141,34 +139,34 @@ answer_small NoMatch = omega arith
 answer_small Count = omega arith
 answer_small CountPkt = omega arith
 
-outcome_small : (o : Outcome) → engine_number (result_of o).answer ≤ 18
+outcome_small : (o : Outcome) → engine_number (result_of o) ≤ 18
 outcome_small (running t) = omega arith
 outcome_small (ended a items k) = omega (arith, answer_small a)
 outcome_small stuck = omega arith
 
 module _ (s x : List ℕ) where
-  sample_small : (o : Sampled) → engine_number (of_sample s x o).answer ≤ 18
+  sample_small : (o : Sampled) → engine_number (of_sample s x o) ≤ 18
   sample_small (flow f) = outcome_small (after (rule_count s) (rule_of s) (attribute (attributes_of x f)) (bound (rule_count s)))
   sample_small other = omega arith
 
-  refused_so : (why : CheckRefusal) (i : ℕ) → (v : CheckAnswer) → engine_report (of_check s x v) ≡ report (check_number why) (i ∷ 0 ∷ replicate 46 0) → v ≡ Refused why i
-  refused_so why i Accepted e =
-      let n : engine_number (of_sample s x (flow_in x)).answer ≡ check_number why = ap (λ (t : Report). t.number) e in
+  refused_so : (why : CheckRefusal) (i : ℕ) → (v : CheckAnswer) → engine_report (of_check s x v) ≡ report (check_number why) (i ∷ 0 ∷ replicate 46 0) → v ≡ refused why i
+  refused_so why i (Ok u) e =
+      let n : engine_number (of_sample s x (flow_in x)) ≡ check_number why = ap (λ (t : Report). t.number) e in
       absurd (omega (arith, n, sample_small (flow_in x), refusal_large why))
-  refused_so why i (Refused w j) e = sym (refusal_again w j (0 ∷ replicate 46 0)) ∙ ap answer_told e ∙ refusal_again why i (0 ∷ replicate 46 0)
+  refused_so why i (Err r) e = sym (refusal_again r.why r.rule (0 ∷ replicate 46 0)) ∙ ap answer_told e ∙ refusal_again why i (0 ∷ replicate 46 0)
 
-  accepted_so : (v : CheckAnswer) → engine_report (of_check s x v) ≡ report 18 (0 ∷ 0 ∷ replicate 46 0) → v ≡ Accepted
-  accepted_so Accepted e = refl
-  accepted_so (Refused w j) e = let n : check_number w ≡ 18 = ap (λ (t : Report). t.number) e in absurd (omega (arith, n, refusal_large w))
+  accepted_so : (v : CheckAnswer) → engine_report (of_check s x v) ≡ report 18 (0 ∷ 0 ∷ replicate 46 0) → v ≡ accepted
+  accepted_so (Ok u) e = refl
+  accepted_so (Err r) e = let n : check_number r.why ≡ 18 = ap (λ (t : Report). t.number) e in absurd (omega (arith, n, refusal_large r.why))
 
-  other_so : check s ≡ Accepted → (o : Sampled) → engine_report (of_sample s x o) ≡ report 18 (0 ∷ 0 ∷ replicate 46 0) → o ≡ other
+  other_so : check s ≡ accepted → (o : Sampled) → engine_report (of_sample s x o) ≡ report 18 (0 ∷ 0 ∷ replicate 46 0) → o ≡ other
   other_so ok (flow f) e =
       let d = ends_there s ok (attribute (attributes_of x f)) in
-      let n : machine_number d.answer ≡ 18 = sym (ap (λ (o : Outcome). engine_number (result_of o).answer) d.ended_so) ∙ ap (λ (t : Report). t.number) e in
+      let n : machine_number d.answer ≡ 18 = sym (ap (λ (o : Outcome). engine_number (result_of o)) d.ended_so) ∙ ap (λ (t : Report). t.number) e in
       absurd (omega (arith, n, answer_small d.answer))
   other_so ok other e = refl
 
-  no_flow_so : engine_report (of_check s x (check s)) ≡ report 18 (0 ∷ 0 ∷ replicate 46 0) → (check s ≡ Accepted) × (flow_in x ≡ other)
+  no_flow_so : engine_report (of_check s x (check s)) ≡ report 18 (0 ∷ 0 ∷ replicate 46 0) → (check s ≡ accepted) × (flow_in x ≡ other)
   no_flow_so e =
       let ok = accepted_so (check s) e in
       (ok, other_so ok (flow_in x) (sym (ap (λ (v : CheckAnswer). engine_report (of_check s x v)) ok) ∙ e))
@@ -188,21 +186,21 @@ module _ (s x : List ℕ) where
   low_answer Count h = absurd (omega (arith, low_small h))
   low_answer CountPkt h = absurd (omega (arith, low_small h))
 
-  ended_key : (f : FlowSample) (k : ℕ) (o : Outcome) → after (rule_count s) (rule_of s) (attribute (attributes_of x f)) k ≡ o → Low (engine_number (result_of o).answer)
-      → (result_of o).key ≡ zero_key
+  ended_key : (f : FlowSample) (k : ℕ) (o : Outcome) → after (rule_count s) (rule_of s) (attribute (attributes_of x f)) k ≡ o → Low (engine_number (result_of o))
+      → key_in (result_of o) ≡ zero_key
   unfolding key_of
   ended_key f k (running t) e h = refl
   ended_key f k (ended a items c) e h =
       ap key_of (no_items (rule_count s) (rule_of s) (attribute (attributes_of x f)) k a items c e (low_answer a h))
   ended_key f k stuck e h = refl
 
-  sample_key : (o : Sampled) → Low (engine_number (of_sample s x o).answer) → (of_sample s x o).key ≡ zero_key
+  sample_key : (o : Sampled) → Low (engine_number (of_sample s x o)) → key_in (of_sample s x o) ≡ zero_key
   sample_key (flow f) h = ended_key f (bound (rule_count s)) _ refl h
   sample_key other h = refl
 
-  run_key : (v : CheckAnswer) → Low (engine_number (of_check s x v).answer) → (of_check s x v).key ≡ zero_key
-  run_key Accepted h = sample_key (flow_in x) h
-  run_key (Refused w j) h = refl
+  run_key : (v : CheckAnswer) → Low (engine_number (of_check s x v)) → key_in (of_check s x v) ≡ zero_key
+  run_key (Ok u) h = sample_key (flow_in x) h
+  run_key (Err r) h = refl
 
 told_of_run : (s x : List ℕ) → RunTold s x (engine_report (engine_of s x))
 unfolding engine_of
@@ -215,5 +213,5 @@ told_of_run s x =
     }
 
 -- for every result that meets the contract of the engine
-pub run_told : (s x : List ℕ) (r : EngineResult) → r ≡ engine_of s x → RunTold s x (engine_report r)
+pub run_told : (s x : List ℕ) (r : EngineAnswer) → r ≡ engine_of s x → RunTold s x (engine_report r)
 run_told s x r e = rw e (told_of_run s x)

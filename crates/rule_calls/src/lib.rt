@@ -1,64 +1,54 @@
 #![tactic(auto)]
 // The check and the engine of rule sets as functions on numbers and slices. Crate export gives them to C and Rust.
-ghost use Rattle.std.specs.Prelude.{◌≡◌, ◌++◌, length};
+ghost use Rattle.std.specs.Prelude.{◌≡◌, ◌++◌, length, Err};
 ghost use Rattle.xdr.specs.Writes.{afterwards};
 ghost use Rattle.rules.specs.Checks.{check};
 ghost use Rattle.engine.specs.Results.{rule_named, engine_of};
 ghost use Rattle.numbers.specs.Reports.{filled_behind, tell};
 ghost use Rattle.rule_calls.specs.RuleSets.{check_report, engine_report};
 
-use engine::{EngineAnswer, FlowKey};
+use engine::{ATTRIBUTES, EngineRefusal, FlowKey};
 use numbers::{fill, fill_behind};
-use rules::CheckAnswer;
 
 // Checks a rule set. Answers 0 where it is accepted, else the refusal's number, 30 to 39; the array takes the number of the rule named, or 0.
 pub fn check(rules: &[u8], out: &mut [u64]) -> u32
     ensures { afterwards result out.new ≡ tell (check_report (check rules.now)) out.old }
 {
     match check_rules::check(rules) {
-        CheckAnswer::Accepted => {
+        Ok(()) => {
             fill(out, &[0]);
             0
         }
-        CheckAnswer::Refused(why, rule) => {
-            fill(out, &[rule as u64]);
-            rules::refusal_number(why)
+        Err(refused) => {
+            fill(out, &[refused.rule as u64]);
+            u32::from(refused.why)
         }
     }
 }
 
-// The rule that an answer names, or 0.
-fn rule_named(answer: EngineAnswer) -> u64
-    ensures { result ≡ rule_named answer }
+// The rule that a refusal names, or 0.
+fn rule_named(why: EngineRefusal) -> u64
+    ensures { result ≡ rule_named (Err why) }
 {
-    match answer {
-        EngineAnswer::Ended(_) => 0,
-        EngineAnswer::NotOneFlowSample => 0,
-        EngineAnswer::Refused(_, i) => i as u64,
+    match why {
+        EngineRefusal::NotOneFlowSample => 0,
+        EngineRefusal::RuleSet(refused) => refused.rule as u64,
     }
 }
 
 // Words as numbers of 64 bits.
-fn widened(xs: [u32; 23]) -> [u64; 23]
+fn widened(xs: [u32; ATTRIBUTES]) -> [u64; ATTRIBUTES]
     ensures { (result ≡ xs) × (length result ≡ 23) }
 {
-    let mut r: [u64; 23] = [0; 23];
-    let mut i: usize = 0;
-    while i < 23 {
-        r[i] = xs[i] as u64;
-        i += 1;
-    }
-    r
+    xs.map(|x| u64::from(x))
 }
 
 // Puts a key's masks and then its values behind the first 2 numbers of an array.
 fn fill_key(key: FlowKey, out: &mut [u64])
     ensures { out.new ≡ filled_behind 2 (key.masks ++ key.values) out.old }
 {
-    let masks = key.masks;
-    let values = key.values;
-    let front = widened(masks);
-    let back = widened(values);
+    let front = widened(key.masks);
+    let back = widened(key.values);
     fill_behind(out, 2, &front);
     fill_behind(out, 25, &back);
 }
@@ -70,11 +60,17 @@ fn fill_key(key: FlowKey, out: &mut [u64])
 pub fn run(rules: &[u8], sample: &[u8], out: &mut [u64]) -> u32
     ensures { afterwards result out.new ≡ tell (engine_report (engine_of rules.now sample.now)) out.old }
 {
-    let result = engine::run(rules, sample);
-    let answer = result.answer;
-    let key = result.key;
-    let named = rule_named(answer);
-    fill(out, &[named, result.rules]);
-    fill_key(key, out);
-    engine::answer_number(answer)
+    let answer = engine::run(rules, sample);
+    let number = engine::answer_number(&answer);
+    match answer {
+        Ok(ended) => {
+            fill(out, &[0, ended.rules]);
+            fill_key(ended.key, out);
+        }
+        Err(why) => {
+            fill(out, &[rule_named(why), 0]);
+            fill_behind(out, 2, &[0; 46]);
+        }
+    }
+    number
 }

@@ -7,35 +7,32 @@ use mathlib.Core.Bool.{Bool, true, false, not, cond, ◌||◌}
 use lib.ListN.{length}
 use lib.Dec.{ltb, leb, eqb}
 use borrow.Author.Tests.{leb-true, leb-false, ltb-false, eqb-false, eqb-true, not-false, lt-ltb}
+use Rattle.std.specs.Prelude.{Ok, Err}
 use Rattle.rules.specs.declared.Action.TheVariants.{Unknown}
-use Rattle.rules.specs.declared.RuleCheck.{RuleCheck}
-use Rattle.rules.specs.declared.RuleCheck.TheVariants.{Fine, Breaks}
 use Rattle.rules.specs.declared.CheckRefusal.{CheckRefusal}
-use Rattle.rules.specs.declared.CheckAnswer.{CheckAnswer}
-use Rattle.rules.specs.declared.CheckAnswer.TheVariants.{Accepted, Refused}
 use Rattle.rules.specs.Opcodes.{action_of}
 use Rattle.rules.specs.Records.{rule_count, record_of, rule_of, declared_of}
-use Rattle.rules.specs.Checks.{form_of, known, bad_opcode, alone_of, returns_nowhere, rule_check, named, or_answer, first_broken, bad_length, check}
+use Rattle.rules.specs.Checks.{accepted, refused, fine, RuleCheck, CheckAnswer, form_of, known, bad_opcode, alone_of, returns_nowhere, rule_check, named, or_answer, first_broken, bad_length, check}
 use Rattle.rules.proofs.Tests.{true_false, or_false, fine_either, fine_both}
 use Rattle.rules.proofs.Opcodes.{every_opcode, opcode_for}
 use Rattle.rules.proofs.Invariant.{Sound, sound}
 
 -- ---- the first rule that breaks one
 
-named_fine : (r : RuleCheck) (i : ℕ) → named r i ≡ Accepted → r ≡ Fine
-named_fine Fine i e = refl
-named_fine (Breaks why) i e = let z : ◌≡◌ {A = ℕ} 0 1 = cc in absurd (omega arith)
+named_fine : (r : RuleCheck) (i : ℕ) → named r i ≡ accepted → r ≡ fine
+named_fine (Ok x) i e = refl
+named_fine (Err why) i e = cc
 
-both_accepted : (v w : CheckAnswer) → or_answer v w ≡ Accepted → (v ≡ Accepted) × (w ≡ Accepted)
-both_accepted Accepted w e = (refl, e)
-both_accepted (Refused why i) w e = let z : ◌≡◌ {A = ℕ} 0 1 = cc in absurd (omega arith)
+both_accepted : (v w : CheckAnswer) → or_answer v w ≡ accepted → (v ≡ accepted) × (w ≡ accepted)
+both_accepted (Ok x) w e = (refl, e)
+both_accepted (Err r) w e = cc
 
-pub all_fine : (f : ℕ → RuleCheck) (n : ℕ) → first_broken f n ≡ Accepted → (i : ℕ) → 1 ≤ i → i ≤ n → f i ≡ Fine
+pub all_fine : (f : ℕ → RuleCheck) (n : ℕ) → first_broken f n ≡ accepted → (i : ℕ) → 1 ≤ i → i ≤ n → f i ≡ fine
 unfolding first_broken
 all_fine f zero e i l h = absurd (omega arith)
 all_fine f (suc k) e i l h = go (leb i k) refl (λ m. all_fine f k (both_accepted _ _ e).0 i l m)
   where
-    go : (b : Bool) → leb i k ≡ b → (i ≤ k → f i ≡ Fine) → f i ≡ Fine
+    go : (b : Bool) → leb i k ≡ b → (i ≤ k → f i ≡ fine) → f i ≡ fine
     go true t rest = rest (leb-true _ _ t)
     go false t rest =
         let m : i ≡ suc k = omega (arith, leb-false i k t) in
@@ -58,13 +55,13 @@ pub record AcceptedSet (s : List ℕ) : Type 0 where
   pub whole : length s ≡ 16 * rule_count s
   pub some_rule : 1 ≤ rule_count s
   pub few : rule_count s ≤ 255
-  pub rules : (i : ℕ) → 1 ≤ i → i ≤ rule_count s → rule_check s i ≡ Fine
+  pub rules : (i : ℕ) → 1 ≤ i → i ≤ rule_count s → rule_check s i ≡ fine
 
-accepts : (b : Bool) (why : CheckRefusal) (i : ℕ) (v : CheckAnswer) → cond b (Refused why i) v ≡ Accepted → (b ≡ false) × (v ≡ Accepted)
-accepts true why i v f = let z : ◌≡◌ {A = ℕ} 0 1 = cc in absurd (omega arith)
+accepts : (b : Bool) (why : CheckRefusal) (i : ℕ) (v : CheckAnswer) → cond b (refused why i) v ≡ accepted → (b ≡ false) × (v ≡ accepted)
+accepts true why i v f = cc
 accepts false why i v f = (refl, f)
 
-pub accepted_set : (s : List ℕ) → check s ≡ Accepted → AcceptedSet s
+pub accepted_set : (s : List ℕ) → check s ≡ accepted → AcceptedSet s
 unfolding check
 accepted_set s e =
     let a = accepts (bad_length (length s)) _ 0 (first_broken (rule_check s) (rule_count s)) e in
@@ -76,7 +73,7 @@ accepted_set s e =
     record { whole = omega arith; some_rule = omega arith; few = omega arith; rules = all_fine (rule_check s) (rule_count s) a.1 }
 
 -- every rule is sound, and every opcode has an action
-pub rule_sound : (s : List ℕ) (i : ℕ) → rule_check s i ≡ Fine → Sound (rule_count s) (rule_of s) (declared_of s) i × (action_of (rule_of s i).opcode ≡ Unknown → ⊥)
+pub rule_sound : (s : List ℕ) (i : ℕ) → rule_check s i ≡ fine → Sound (rule_count s) (rule_of s) (declared_of s) i × (action_of (rule_of s i).opcode ≡ Unknown → ⊥)
 unfolding rule_check form_of
 rule_sound s i e =
     let u = fine_both (form_of (record_of s i).mark (rule_of s i).attribute (rule_of s i).opcode) _ e in

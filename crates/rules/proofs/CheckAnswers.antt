@@ -8,76 +8,70 @@ use mathlib.Core.Bool.{Bool, true, false, not, cond, ◌||◌}
 use lib.ListN.{length}
 use lib.Dec.{ltb, leb, eqb}
 use borrow.Author.Tests.{leb-true, leb-false, eqb-true, eqb-false, ltb-true, eq-eqb, ne_eqb, lt-ltb}
-use Rattle.rules.specs.declared.RuleCheck.{RuleCheck}
-use Rattle.rules.specs.declared.RuleCheck.TheVariants.{Fine, Breaks}
+use Rattle.std.specs.Prelude.{Ok, Err}
 use Rattle.rules.specs.declared.CheckRefusal.{CheckRefusal}
 use Rattle.rules.specs.declared.CheckRefusal.TheVariants.{Length}
-use Rattle.rules.specs.declared.CheckAnswer.{CheckAnswer}
-use Rattle.rules.specs.declared.CheckAnswer.TheVariants.{Accepted, Refused}
 use Rattle.rules.specs.Records.{rule_count}
-use Rattle.rules.specs.Checks.{rule_check, named, or_answer, first_broken, bad_length, check, FirstToBreak, AllFine}
+use Rattle.rules.specs.Checks.{accepted, refused, fine, RuleCheck, CheckAnswer, rule_check, named, or_answer, first_broken, bad_length, check, FirstToBreak, AllFine}
 use Rattle.rules.proofs.Accepted.{all_fine}
 use Rattle.rules.proofs.LowestNumber.{lowest_exactly, fine_exactly}
 
 -- ---- what a refusal holds
 
 abbrev why_in : CheckAnswer → CheckRefusal
-why_in Accepted = Length
-why_in (Refused why i) = why
+why_in (Ok x) = Length
+why_in (Err r) = r.why
 
 abbrev rule_number_in : CheckAnswer → ℕ
-rule_number_in Accepted = 0
-rule_number_in (Refused why i) = i
-
-not_accepted : {A : Type 0} {why : CheckRefusal} {i : ℕ} → Accepted ≡ Refused why i → A
-not_accepted e = let z : ◌≡◌ {A = ℕ} 0 1 = cc in absurd (omega arith)
+rule_number_in (Ok x) = 0
+rule_number_in (Err r) = r.rule
 
 -- ---- the first rule that breaks one
 
 module _ (f : ℕ → RuleCheck) where
   -- what the rule behind a run of fine ones breaks
-  named_breaks : (r : RuleCheck) (j : ℕ) (why : CheckRefusal) (i : ℕ) → named r j ≡ Refused why i → (r ≡ Breaks why) × (j ≡ i)
-  named_breaks Fine j why i e = not_accepted e
-  named_breaks (Breaks w) j why i e = (ap Breaks (ap why_in e), ap rule_number_in e)
+  named_breaks : (r : RuleCheck) (j : ℕ) (why : CheckRefusal) (i : ℕ) → named r j ≡ refused why i → (r ≡ Err why) × (j ≡ i)
+  named_breaks (Ok x) j why i e = cc
+  named_breaks (Err w) j why i e = (ap Err (ap why_in e), ap rule_number_in e)
 
   -- rule i of n is the first that breaks one
   abbrev First : ℕ → CheckRefusal → ℕ → Type 0
-  First n why i = (1 ≤ i) × (i ≤ n) × (f i ≡ Breaks why) × ((j : ℕ) → 1 ≤ j → j < i → f j ≡ Fine)
+  First n why i = (1 ≤ i) × (i ≤ n) × (f i ≡ Err why) × ((j : ℕ) → 1 ≤ j → j < i → f j ≡ fine)
 
-  first_named : (n : ℕ) (why : CheckRefusal) (i : ℕ) → first_broken f n ≡ Refused why i → First n why i
+  first_named : (n : ℕ) (why : CheckRefusal) (i : ℕ) → first_broken f n ≡ refused why i → First n why i
   unfolding first_broken
-  first_named zero why i e = not_accepted e
+  first_named zero why i e = cc
   first_named (suc k) why i e = go (first_broken f k) refl e (first_named k why i)
     where
-      go : (v : CheckAnswer) → first_broken f k ≡ v → or_answer v (named (f (suc k)) (suc k)) ≡ Refused why i → (first_broken f k ≡ Refused why i → First k why i)
+      go : (v : CheckAnswer) → first_broken f k ≡ v → or_answer v (named (f (suc k)) (suc k)) ≡ refused why i → (first_broken f k ≡ refused why i → First k why i)
           → First (suc k) why i
-      go Accepted q x again =
+      go (Ok u) q x again =
           let r = named_breaks (f (suc k)) (suc k) why i x in
           let l : i ≡ suc k = sym r.1 in
           (omega arith, omega arith, rw l r.0, λ j low below. all_fine f k q j low (omega (arith, l, below)))
-      go (Refused w j) q x again = let a = again (q ∙ x) in (a.0, omega (arith, a.1), a.2, a.3)
+      go (Err r) q x again = let a = again (q ∙ x) in (a.0, omega (arith, a.1), a.2, a.3)
 
-  all_accepted : (n : ℕ) → ((i : ℕ) → 1 ≤ i → i ≤ n → f i ≡ Fine) → first_broken f n ≡ Accepted
+  all_accepted : (n : ℕ) → ((i : ℕ) → 1 ≤ i → i ≤ n → f i ≡ fine) → first_broken f n ≡ accepted
   unfolding first_broken
   all_accepted zero h = refl
   all_accepted (suc k) h =
-      let a : first_broken f k ≡ Accepted = all_accepted k (λ i l m. h i l (omega (arith, m))) in
-      let b : f (suc k) ≡ Fine = h (suc k) (omega arith) (omega arith) in
+      let a : first_broken f k ≡ accepted = all_accepted k (λ i l m. h i l (omega (arith, m))) in
+      let b : f (suc k) ≡ fine = h (suc k) (omega arith) (omega arith) in
       rw (a, b)
 
-  named_first : (n : ℕ) (why : CheckRefusal) (i : ℕ) → First n why i → first_broken f n ≡ Refused why i
+  named_first : (n : ℕ) (why : CheckRefusal) (i : ℕ) → First n why i → first_broken f n ≡ refused why i
   unfolding first_broken
   named_first zero why i h = absurd (omega (arith, h.0, h.1))
   named_first (suc k) why i h = go (leb i k) refl (named_first k why i)
     where
-      go : (b : Bool) → leb i k ≡ b → (First k why i → first_broken f k ≡ Refused why i) → or_answer (first_broken f k) (named (f (suc k)) (suc k)) ≡ Refused why i
+      go : (b : Bool) → leb i k ≡ b → (First k why i → first_broken f k ≡ refused why i) → or_answer (first_broken f k) (named (f (suc k)) (suc k)) ≡ refused why i
       go true t again =
-          let a : first_broken f k ≡ Refused why i = again (h.0, leb-true i k t, h.2, h.3) in
+          let a : first_broken f k ≡ refused why i = again (h.0, leb-true i k t, h.2, h.3) in
           rw a
       go false t again =
           let l : i ≡ suc k = omega (arith, leb-false i k t, h.1) in
-          let a : first_broken f k ≡ Accepted = all_accepted k (λ j low high. h.3 j low (omega (arith, l, high))) in
-          let b : f (suc k) ≡ Breaks why = rw l at h.2 in
+          let a : first_broken f k ≡ accepted = all_accepted k (λ j low high. h.3 j low (omega (arith, l, high))) in
+          let b : f (suc k) ≡ Err why = rw l at h.2 in
           rw (a, b, l)
 
 -- ---- the check
@@ -102,30 +96,30 @@ module _ (s : List ℕ) where
       from (inr (inl m)) = rw (ne_eqb (length s % 16) 0 m, or_right (eqb (length s) 0))
       from (inr (inr l)) = rw (lt-ltb 4080 (length s) (omega (arith, l))) (or_right (eqb (length s) 0 || not (eqb (length s % 16) 0)))
 
-  pub check_accepts_exactly : (check s ≡ Accepted) ↔ ((bad_length (length s) ≡ false) × AllFine s)
+  pub check_accepts_exactly : (check s ≡ accepted) ↔ ((bad_length (length s) ≡ false) × AllFine s)
   unfolding check
   check_accepts_exactly =
       (to (bad_length (length s)) refl, λ h. rw h.0 (all_accepted (rule_check s) (rule_count s) λ i low high. (fine_exactly s i).1 (h.1 i low high)))
     where
-      to : (b : Bool) → bad_length (length s) ≡ b → cond b (Refused Length 0) (first_broken (rule_check s) (rule_count s)) ≡ Accepted
+      to : (b : Bool) → bad_length (length s) ≡ b → cond b (refused Length 0) (first_broken (rule_check s) (rule_count s)) ≡ accepted
           → (bad_length (length s) ≡ false) × AllFine s
-      to true t e = not_accepted (sym e)
+      to true t e = cc
       to false t e = (t, λ i low high. (fine_exactly s i).0 (all_fine (rule_check s) (rule_count s) e i low high))
 
   pub check_refuses_exactly : (why : CheckRefusal) (i : ℕ)
-      → (check s ≡ Refused why i)
+      → (check s ≡ refused why i)
       ↔ (((bad_length (length s) ≡ true) × (why ≡ Length) × (i ≡ 0)) ⊎ ((bad_length (length s) ≡ false) × FirstToBreak s why i))
   unfolding check
   check_refuses_exactly why i = (to (bad_length (length s)) refl, from)
     where
-      to : (b : Bool) → bad_length (length s) ≡ b → cond b (Refused Length 0) (first_broken (rule_check s) (rule_count s)) ≡ Refused why i
+      to : (b : Bool) → bad_length (length s) ≡ b → cond b (refused Length 0) (first_broken (rule_check s) (rule_count s)) ≡ refused why i
           → ((bad_length (length s) ≡ true) × (why ≡ Length) × (i ≡ 0)) ⊎ ((bad_length (length s) ≡ false) × FirstToBreak s why i)
       to true t e = inl (t, sym (ap why_in e), sym (ap rule_number_in e))
       to false t e =
           let h = first_named (rule_check s) (rule_count s) why i e in
           inr (t, record { low = h.0; high = h.1; lowest = (lowest_exactly s i why).0 h.2; below = λ j low high. (fine_exactly s j).0 (h.3 j low high) })
 
-      from : ((bad_length (length s) ≡ true) × (why ≡ Length) × (i ≡ 0)) ⊎ ((bad_length (length s) ≡ false) × FirstToBreak s why i) → check s ≡ Refused why i
+      from : ((bad_length (length s) ≡ true) × (why ≡ Length) × (i ≡ 0)) ⊎ ((bad_length (length s) ≡ false) × FirstToBreak s why i) → check s ≡ refused why i
       from (inl (t, w, z)) = rw (t, w, z)
       from (inr (t, h)) =
           rw t

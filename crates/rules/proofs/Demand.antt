@@ -10,16 +10,15 @@ use Rattle.rules.specs.declared.Rule.{Rule}
 use Rattle.rules.specs.declared.Item.{Item}
 use Rattle.rules.specs.declared.Action.TheVariants.{Unknown}
 use Rattle.rules.specs.declared.MachineAnswer.{MachineAnswer}
-use Rattle.rules.specs.declared.CheckAnswer.TheVariants.{Accepted}
 use Rattle.rules.specs.Opcodes.{action_of}
 use Rattle.rules.specs.Records.{rule_count, rule_of, declared_of}
 use Rattle.rules.specs.Machine.{MachineState, Outcome, running, ended, stuck, advance, after}
-use Rattle.rules.specs.Checks.{check}
+use Rattle.rules.specs.Checks.{accepted, check}
 use Rattle.rules.specs.Demand.{bound, WithinLimits, MachineWithin, open_subroutine, AsDeclared}
 use Rattle.rules.proofs.Invariant.{Sound, Frames, main, sub, Inv, Reached, reached, ends}
 use Rattle.rules.proofs.Accepted.{accepted_set, rule_sound}
 
-module _ (s : List ℕ) (e : check s ≡ Accepted) (at : ℕ → ℕ) where
+module _ (s : List ℕ) (e : check s ≡ accepted) (at : ℕ → ℕ) where
   abbrev n : ℕ
   n = rule_count s
 

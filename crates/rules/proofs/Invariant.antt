@@ -14,12 +14,11 @@ use Rattle.rules.specs.declared.Item.{Item}
 use Rattle.rules.specs.declared.Action.{Action}
 use Rattle.rules.specs.declared.Action.TheVariants.{Unknown, Ignore, NoMatch, Count, CountPkt, Return, Gosub, Goto, PushRule, PushPkt, PopTo}
 use Rattle.rules.specs.declared.MachineAnswer.TheVariants as Answer
-use Rattle.rules.specs.declared.RuleCheck.TheVariants.{Fine}
 use Rattle.rules.specs.Opcodes.{action_of, is_return, is_gosub, goto_flag}
 use Rattle.rules.specs.Bits.{masked}
 use Rattle.rules.specs.Machine.{MachineState, Outcome, running, ended, stuck, passes, goes, comes_back, drops, act, fails, step, advance, after}
 use Rattle.rules.specs.Room.{Room}
-use Rattle.rules.specs.Checks.{any_up_to, differs, bad_target, alone_of, bad_queue, held_after, aims, comes_back_nowhere, comes_back_otherwise, returns_nowhere, next_differs, target_differs, return_differs, rest_of}
+use Rattle.rules.specs.Checks.{fine, any_up_to, differs, bad_target, alone_of, bad_queue, held_after, aims, comes_back_nowhere, comes_back_otherwise, returns_nowhere, next_differs, target_differs, return_differs, rest_of}
 use Rattle.rules.specs.Demand.{bound, EndsAt}
 use Rattle.rules.proofs.Tests.{or_false, and_false, fine_either, some_false, differs_false}
 use Rattle.rules.proofs.Bits.{masked_zero}
@@ -57,7 +56,7 @@ module _ (n : ℕ) (rule : ℕ → Rule) (declared : ℕ → Declared) where
     pub target : goto_differs (act_of i) i ≡ false
     pub back : is_return (act_of i) && some_otherwise i ≡ false
 
-  pub sound : (i : ℕ) → alone_of n i (rule i) (declared i) ≡ Fine → returns_nowhere n rule declared (rule i) (declared i) ≡ false → rest_of n rule declared i (rule i) (declared i) ≡ Fine → Sound i
+  pub sound : (i : ℕ) → alone_of n i (rule i) (declared i) ≡ fine → returns_nowhere n rule declared (rule i) (declared i) ≡ false → rest_of n rule declared i (rule i) (declared i) ≡ fine → Sound i
   unfolding alone_of returns_nowhere rest_of
   sound i e x y =
       let a = fine_either _ _ _ e in

@@ -5,19 +5,18 @@ use mathlib.Core.Path.{◌≡◌, refl, sym, ap, ◌∙◌}
 use mathlib.Core.Logic.{◌⊎◌, inl, inr, ◌↔◌}
 use mathlib.Core.List.{List, [], ◌∷◌}
 use mathlib.Core.Bool.{Bool, true, false, true≢false, ◌||◌}
-use Rattle.rules.specs.declared.RuleCheck.{RuleCheck}
-use Rattle.rules.specs.declared.RuleCheck.TheVariants.{Fine, Breaks}
+use Rattle.std.specs.Prelude.{Ok, Err}
 use Rattle.rules.specs.declared.CheckRefusal.{CheckRefusal}
 use Rattle.rules.specs.declared.CheckRefusal.TheVariants.{Length, Mark, Attribute, Opcode, Limits, FirstRule, ReturnInMain, Target, Queue, Successor}
 use Rattle.rules.specs.Opcodes.{action_of}
 use Rattle.rules.specs.Records.{rule_count, rule_of, declared_of}
-use Rattle.rules.specs.Checks.{check_number, or_breaks, unless_broken, form_of, bad_target, alone_of, returns_nowhere, rest_of, rule_check, breaks, BreaksNone, LowestBroken}
+use Rattle.rules.specs.Checks.{fine, RuleCheck, check_number, or_breaks, unless_broken, form_of, bad_target, alone_of, returns_nowhere, rest_of, rule_check, breaks, BreaksNone, LowestBroken}
 
 -- ---- tests one behind the other
 
 -- the first of some refusals whose test says so
 first_of : (CheckRefusal → Bool) → List CheckRefusal → RuleCheck
-first_of t [] = Fine
+first_of t [] = fine
 first_of t (w ∷ ws) = or_breaks (t w) w (first_of t ws)
 
 abbrev Member : CheckRefusal → List CheckRefusal → Type 0
@@ -35,30 +34,27 @@ above n (x ∷ xs) i w (inl e) = rw e i.0
 above n (x ∷ xs) i w (inr m) = omega (arith, i.0, above (check_number x) xs i.1 w m)
 
 why_in : RuleCheck → CheckRefusal
-why_in Fine = Length
-why_in (Breaks why) = why
-
-not_fine : {A : Type 0} {why : CheckRefusal} → Fine ≡ Breaks why → A
-not_fine e = let z : ◌≡◌ {A = ℕ} 0 1 = cc in absurd (omega arith)
+why_in (Ok x) = Length
+why_in (Err why) = why
 
 module _ (t : CheckRefusal → Bool) where
-  first_broken_is : (ws : List CheckRefusal) (why : CheckRefusal) → first_of t ws ≡ Breaks why → t why ≡ true
+  first_broken_is : (ws : List CheckRefusal) (why : CheckRefusal) → first_of t ws ≡ Err why → t why ≡ true
   unfolding first_of why_in
-  first_broken_is [] why e = not_fine e
+  first_broken_is [] why e = cc
   first_broken_is (x ∷ xs) why e = go (t x) refl e (first_broken_is xs why)
     where
-      go : (b : Bool) → t x ≡ b → or_breaks b x (first_of t xs) ≡ Breaks why → (first_of t xs ≡ Breaks why → t why ≡ true) → t why ≡ true
+      go : (b : Bool) → t x ≡ b → or_breaks b x (first_of t xs) ≡ Err why → (first_of t xs ≡ Err why → t why ≡ true) → t why ≡ true
       go true f h again = ap t (sym (ap why_in h)) ∙ f
       go false f h again = again h
 
-  none_before : (n : ℕ) (ws : List CheckRefusal) → Increasing n ws → (why : CheckRefusal) → first_of t ws ≡ Breaks why
+  none_before : (n : ℕ) (ws : List CheckRefusal) → Increasing n ws → (why : CheckRefusal) → first_of t ws ≡ Err why
       → (w : CheckRefusal) → Member w ws → check_number w < check_number why → t w ≡ false
   unfolding first_of why_in
   none_before n [] i why e w m l = absurd m
   none_before n (x ∷ xs) i why e w m l = go (t x) refl e m (none_before (check_number x) xs i.1 why)
     where
-      go : (b : Bool) → t x ≡ b → or_breaks b x (first_of t xs) ≡ Breaks why → (w ≡ x) ⊎ Member w xs
-          → (first_of t xs ≡ Breaks why → (w : CheckRefusal) → Member w xs → check_number w < check_number why → t w ≡ false) → t w ≡ false
+      go : (b : Bool) → t x ≡ b → or_breaks b x (first_of t xs) ≡ Err why → (w ≡ x) ⊎ Member w xs
+          → (first_of t xs ≡ Err why → (w : CheckRefusal) → Member w xs → check_number w < check_number why → t w ≡ false) → t w ≡ false
       go true f h (inl p) again = let q : x ≡ why = ap why_in h in let z : check_number w ≡ check_number why = ap check_number (p ∙ q) in absurd (omega (arith, l, z))
       go true f h (inr p) again =
           let q : x ≡ why = ap why_in h in
@@ -69,30 +65,30 @@ module _ (t : CheckRefusal → Bool) where
       go false f h (inr p) again = again h w p l
 
   first_is : (n : ℕ) (ws : List CheckRefusal) → Increasing n ws → (why : CheckRefusal) → Member why ws → t why ≡ true
-      → ((w : CheckRefusal) → check_number w < check_number why → t w ≡ false) → first_of t ws ≡ Breaks why
+      → ((w : CheckRefusal) → check_number w < check_number why → t w ≡ false) → first_of t ws ≡ Err why
   unfolding first_of
   first_is n [] i why m b l = absurd m
   first_is n (x ∷ xs) i why (inl e) b l = let f : t x ≡ true = ap t (sym e) ∙ b in rw (f, e)
   first_is n (x ∷ xs) i why (inr m) b l =
       let f : t x ≡ false = l x (above (check_number x) xs i.1 why m) in
-      let again : first_of t xs ≡ Breaks why = first_is (check_number x) xs i.1 why m b l in
+      let again : first_of t xs ≡ Err why = first_is (check_number x) xs i.1 why m b l in
       rw (f, again)
 
-  first_fine : (ws : List CheckRefusal) → first_of t ws ≡ Fine → (w : CheckRefusal) → Member w ws → t w ≡ false
+  first_fine : (ws : List CheckRefusal) → first_of t ws ≡ fine → (w : CheckRefusal) → Member w ws → t w ≡ false
   unfolding first_of
   first_fine [] e w m = absurd m
   first_fine (x ∷ xs) e w m = go (t x) refl e m λ h. first_fine xs h w
     where
-      go : (b : Bool) → t x ≡ b → or_breaks b x (first_of t xs) ≡ Fine → (w ≡ x) ⊎ Member w xs → (first_of t xs ≡ Fine → Member w xs → t w ≡ false)
+      go : (b : Bool) → t x ≡ b → or_breaks b x (first_of t xs) ≡ fine → (w ≡ x) ⊎ Member w xs → (first_of t xs ≡ fine → Member w xs → t w ≡ false)
           → t w ≡ false
-      go true f h p again = not_fine (sym h)
+      go true f h p again = cc
       go false f h (inl p) again = ap t p ∙ f
       go false f h (inr p) again = again h p
 
-  fine_is : (ws : List CheckRefusal) → ((w : CheckRefusal) → t w ≡ false) → first_of t ws ≡ Fine
+  fine_is : (ws : List CheckRefusal) → ((w : CheckRefusal) → t w ≡ false) → first_of t ws ≡ fine
   unfolding first_of
   fine_is [] h = refl
-  fine_is (x ∷ xs) h = let f = h x in let again : first_of t xs ≡ Fine = fine_is xs h in rw (f, again)
+  fine_is (x ∷ xs) h = let f = h x in let again : first_of t xs ≡ fine = fine_is xs h in rw (f, again)
 
 -- ---- the tests of a rule, from 31 up
 
@@ -116,11 +112,11 @@ member Successor = inr (inr (inr (inr (inr (inr (inr (inr (inr (inl refl))))))))
 
 -- the tests of a rule are these in this order
 in_order : (a b c d e f g h k l : Bool)
-    → unless_broken (or_breaks a Mark (or_breaks b Attribute (or_breaks c Opcode Fine)))
-    (unless_broken (or_breaks d Limits (or_breaks e FirstRule (or_breaks f ReturnInMain (or_breaks g Target Fine))))
-    (or_breaks h Target (or_breaks k Queue (or_breaks l Successor Fine))))
+    → unless_broken (or_breaks a Mark (or_breaks b Attribute (or_breaks c Opcode fine)))
+    (unless_broken (or_breaks d Limits (or_breaks e FirstRule (or_breaks f ReturnInMain (or_breaks g Target fine))))
+    (or_breaks h Target (or_breaks k Queue (or_breaks l Successor fine))))
     ≡ or_breaks a Mark (or_breaks b Attribute (or_breaks c Opcode (or_breaks d Limits (or_breaks e FirstRule (or_breaks f ReturnInMain
-    (or_breaks (g || h) Target (or_breaks k Queue (or_breaks l Successor Fine))))))))
+    (or_breaks (g || h) Target (or_breaks k Queue (or_breaks l Successor fine))))))))
 in_order true b c d e f g h k l = refl
 in_order false true c d e f g h k l = refl
 in_order false false true d e f g h k l = refl
@@ -140,29 +136,29 @@ rule_check_is s i =
 -- ---- a rule's refusal, exactly
 
 module _ (s : List ℕ) (i : ℕ) where
-  pub lowest_exactly : (why : CheckRefusal) → (rule_check s i ≡ Breaks why) ↔ LowestBroken s i why
+  pub lowest_exactly : (why : CheckRefusal) → (rule_check s i ≡ Err why) ↔ LowestBroken s i why
   lowest_exactly why = (to, from)
     where
-      to : rule_check s i ≡ Breaks why → LowestBroken s i why
+      to : rule_check s i ≡ Err why → LowestBroken s i why
       to e =
-          let h : first_of (breaks s i) order ≡ Breaks why = sym (rule_check_is s i) ∙ e in
+          let h : first_of (breaks s i) order ≡ Err why = sym (rule_check_is s i) ∙ e in
           record { broken = first_broken_is (breaks s i) order why h; none_lower = λ w l. lower h w (member w) l }
         where
-          lower : first_of (breaks s i) order ≡ Breaks why → (w : CheckRefusal) → (w ≡ Length) ⊎ Member w order → check_number w < check_number why → breaks s i w ≡ false
+          lower : first_of (breaks s i) order ≡ Err why → (w : CheckRefusal) → (w ≡ Length) ⊎ Member w order → check_number w < check_number why → breaks s i w ≡ false
           lower h w (inl z) l = ap (breaks s i) z
           lower h w (inr m) l = none_before (breaks s i) 30 order increasing why h w m l
 
-      from : LowestBroken s i why → rule_check s i ≡ Breaks why
+      from : LowestBroken s i why → rule_check s i ≡ Err why
       from h = rule_check_is s i ∙ at (member why)
         where
-          at : (why ≡ Length) ⊎ Member why order → first_of (breaks s i) order ≡ Breaks why
+          at : (why ≡ Length) ⊎ Member why order → first_of (breaks s i) order ≡ Err why
           at (inl z) = absurd (true≢false (sym h.broken ∙ ap (breaks s i) z))
           at (inr m) = first_is (breaks s i) 30 order increasing why m h.broken h.none_lower
 
-  pub fine_exactly : (rule_check s i ≡ Fine) ↔ BreaksNone s i
+  pub fine_exactly : (rule_check s i ≡ fine) ↔ BreaksNone s i
   fine_exactly = (to, λ h. rule_check_is s i ∙ fine_is (breaks s i) order h)
     where
-      to : rule_check s i ≡ Fine → BreaksNone s i
+      to : rule_check s i ≡ fine → BreaksNone s i
       to e w = at (member w)
         where
           at : (w ≡ Length) ⊎ Member w order → breaks s i w ≡ false

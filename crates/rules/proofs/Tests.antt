@@ -6,14 +6,13 @@ use mathlib.Core.Bool.{Bool, true, false, ◌&&◌, ◌||◌}
 use lib.Dec.{leb}
 use borrow.Author.Tests.{leb-true, leb-false, eqb-true, not-false}
 use Rattle.xdr.proofs.Tests.{and_parts}
+use Rattle.std.specs.Prelude.{Ok, Err}
 use Rattle.rules.specs.declared.Declared.{Declared}
 use Rattle.rules.specs.declared.CheckRefusal.{CheckRefusal}
-use Rattle.rules.specs.declared.RuleCheck.{RuleCheck}
-use Rattle.rules.specs.declared.RuleCheck.TheVariants.{Fine, Breaks}
-use Rattle.rules.specs.Checks.{or_breaks, unless_broken, any_up_to, differs}
+use Rattle.rules.specs.Checks.{fine, RuleCheck, or_breaks, unless_broken, any_up_to, differs}
 
 pub true_false : {A : Type 0} → true ≡ false → A
-true_false e = let z : ◌≡◌ {A = ℕ} 0 1 = cc in absurd (omega arith)
+true_false e = cc
 
 pub or_false : (a b : Bool) → a || b ≡ false → (a ≡ false) × (b ≡ false)
 or_false true b e = true_false e
@@ -23,13 +22,13 @@ pub and_false : (a b : Bool) → a && b ≡ false → a ≡ true → b ≡ false
 and_false true b e f = e
 and_false false b e f = true_false (sym f)
 
-pub fine_either : (b : Bool) (why : CheckRefusal) (next : RuleCheck) → or_breaks b why next ≡ Fine → (b ≡ false) × (next ≡ Fine)
-fine_either true why next e = let z : ◌≡◌ {A = ℕ} 0 1 = cc in absurd (omega arith)
+pub fine_either : (b : Bool) (why : CheckRefusal) (next : RuleCheck) → or_breaks b why next ≡ fine → (b ≡ false) × (next ≡ fine)
+fine_either true why next e = cc
 fine_either false why next e = (refl, e)
 
-pub fine_both : (a b : RuleCheck) → unless_broken a b ≡ Fine → (a ≡ Fine) × (b ≡ Fine)
-fine_both Fine b e = (refl, e)
-fine_both (Breaks why) b e = let z : ◌≡◌ {A = ℕ} 0 1 = cc in absurd (omega arith)
+pub fine_both : (a b : RuleCheck) → unless_broken a b ≡ fine → (a ≡ fine) × (b ≡ fine)
+fine_both (Ok x) b e = (refl, e)
+fine_both (Err why) b e = cc
 
 pub some_false : (f : ℕ → Bool) (n : ℕ) → any_up_to f n ≡ false → (g : ℕ) → 1 ≤ g → g ≤ n → f g ≡ false
 some_false f zero e g l h = absurd (omega arith)

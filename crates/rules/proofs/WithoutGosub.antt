@@ -10,11 +10,10 @@ use lib.Dec.{ltb}
 use borrow.Author.Tests.{ltb-true, ltb-false}
 use Rattle.rules.specs.declared.Action.{Action}
 use Rattle.rules.specs.declared.Action.TheVariants.{Unknown, Ignore, NoMatch, Count, CountPkt, Return, Gosub, Goto, PushRule, PushPkt, PopTo}
-use Rattle.rules.specs.declared.CheckAnswer.TheVariants.{Accepted}
 use Rattle.rules.specs.Opcodes.{action_of, is_gosub}
 use Rattle.rules.specs.Records.{rule_count, rule_of, declared_of}
 use Rattle.rules.specs.Machine.{MachineState, Outcome, running, ended, stuck, step, advance, after}
-use Rattle.rules.specs.Checks.{check}
+use Rattle.rules.specs.Checks.{accepted, check}
 use Rattle.rules.specs.Demand.{bound, WithinLimits, EndsAt, MachineWithin, WithoutGosub}
 use Rattle.rules.proofs.Tests.{true_false}
 use Rattle.rules.proofs.Measure.{size, later, left}
@@ -48,7 +47,7 @@ gosub_opcode (PushRule t) op o g six seven = true_false (sym g)
 gosub_opcode (PushPkt t) op o g six seven = true_false (sym g)
 gosub_opcode (PopTo t) op o g six seven = true_false (sym g)
 
-module _ (s : List ℕ) (e : check s ≡ Accepted) (none-there : WithoutGosub (rule_count s) (rule_of s)) (at : ℕ → ℕ) where
+module _ (s : List ℕ) (e : check s ≡ accepted) (none-there : WithoutGosub (rule_count s) (rule_of s)) (at : ℕ → ℕ) where
   abbrev n : ℕ
   n = rule_count s
 

@@ -1,15 +1,12 @@
 -- The check of a rule set (document 01, "Rule sets"): 30, then rules in number order, each from 31 up; the first that breaks one is named.
-use Rattle.std.specs.Prelude.{ℕ, zero, suc, ◌+◌, ◌-◌, ◌%◌, ◌≤◌, ◌<◌, ◌≡◌, List, [], ◌∷◌, Bool, true, false, not, cond, ◌&&◌, ◌||◌, length, ltb, leb, eqb}
+use Rattle.std.specs.Prelude.{ℕ, zero, suc, ◌+◌, ◌-◌, ◌%◌, ◌≤◌, ◌<◌, ◌≡◌, List, [], ◌∷◌, Bool, true, false, not, cond, ◌&&◌, ◌||◌, length, ltb, leb, eqb, Result, Ok, Err, ⊤}
 use Rattle.rules.specs.declared.Rule.{Rule}
 use Rattle.rules.specs.declared.Declared.{Declared}
 use Rattle.rules.specs.declared.Action.{Action}
 use Rattle.rules.specs.declared.Action.TheVariants.{Unknown, Ignore, NoMatch, Count, CountPkt, Return, Gosub, Goto, PushRule, PushPkt, PopTo}
 use Rattle.rules.specs.declared.CheckRefusal.{CheckRefusal}
 use Rattle.rules.specs.declared.CheckRefusal.TheVariants.{Length, Mark, Attribute, Opcode, Limits, FirstRule, ReturnInMain, Target, Queue, Successor}
-use Rattle.rules.specs.declared.RuleCheck.{RuleCheck}
-use Rattle.rules.specs.declared.RuleCheck.TheVariants.{Fine, Breaks}
-use Rattle.rules.specs.declared.CheckAnswer.{CheckAnswer}
-use Rattle.rules.specs.declared.CheckAnswer.TheVariants.{Accepted, Refused}
+use Rattle.rules.specs.declared.CheckRefused.{CheckRefused}
 use Rattle.rules.specs.Opcodes.{action_of, is_return, is_gosub, goto_flag}
 use Rattle.rules.specs.Records.{rule_count, record_of, rule_of, declared_of}
 
@@ -28,13 +25,20 @@ check_number Successor = 39
 
 -- ---- one test behind another
 
+-- what one rule was found to be: fine, or what it breaks
+abbrev pub RuleCheck : Type 0
+RuleCheck = Result ⊤ CheckRefusal
+
+abbrev pub fine : RuleCheck
+fine = Ok tt
+
 -- a refusal where a test says so, else what the next tests find
 abbrev pub or_breaks : Bool → CheckRefusal → RuleCheck → RuleCheck
-or_breaks b why next = cond b (Breaks why) next
+or_breaks b why next = cond b (Err why) next
 
 abbrev pub unless_broken : RuleCheck → RuleCheck → RuleCheck
-unless_broken Fine next = next
-unless_broken (Breaks why) next = Breaks why
+unless_broken (Ok x) next = next
+unless_broken (Err why) next = Err why
 
 -- some number from 1 to n passes a test
 abbrev pub any_up_to : (ℕ → Bool) → ℕ → Bool
@@ -60,7 +64,7 @@ bad_opcode op = eqb op 0 || ltb 17 op || eqb op 8 || eqb op 9
 
 unfoldable pub form_of : ℕ → ℕ → ℕ → RuleCheck
 form_of mark attribute opcode =
-    or_breaks (not (eqb mark 21109)) Mark (or_breaks (not (known attribute)) Attribute (or_breaks (bad_opcode opcode) Opcode Fine))
+    or_breaks (not (eqb mark 21109)) Mark (or_breaks (not (known attribute)) Attribute (or_breaks (bad_opcode opcode) Opcode fine))
 
 -- ---- 34 to 37, by the rule alone
 
@@ -77,7 +81,7 @@ alone_of n i r w =
     or_breaks (ltb 4 w.depth || ltb 16 w.held) Limits
     (or_breaks (eqb i 1 && differs w 0 0 0) FirstRule
     (or_breaks (is_return (action_of r.opcode) && eqb w.home 0) ReturnInMain
-    (or_breaks (bad_target (action_of r.opcode) n i r.parameter) Target Fine)))
+    (or_breaks (bad_target (action_of r.opcode) n i r.parameter) Target fine)))
 
 -- ---- 38, and how many items are queued at a goto target
 
@@ -148,7 +152,7 @@ module _ (n : ℕ) (rule : ℕ → Rule) (declared : ℕ → Declared) where
   unfoldable pub rest_of : ℕ → Rule → Declared → RuleCheck
   rest_of i r w =
       or_breaks (bad_queue (action_of r.opcode) w.held) Queue
-      (or_breaks (next_differs i r w || target_differs r w || return_differs r w) Successor Fine)
+      (or_breaks (next_differs i r w || target_differs r w || return_differs r w) Successor fine)
 
 -- ---- the rule set
 
@@ -160,17 +164,27 @@ rule_check s i =
     (or_breaks (returns_nowhere (rule_count s) (rule_of s) (declared_of s) (rule_of s i) (declared_of s i)) Target
     (rest_of (rule_count s) (rule_of s) (declared_of s) i (rule_of s i) (declared_of s i))))
 
+-- a rule set is accepted, or refused for the rule that is named
+abbrev pub CheckAnswer : Type 0
+CheckAnswer = Result ⊤ CheckRefused
+
+abbrev pub accepted : CheckAnswer
+accepted = Ok tt
+
+abbrev pub refused : CheckRefusal → ℕ → CheckAnswer
+refused why i = Err (record { why = why; rule = i })
+
 abbrev pub named : RuleCheck → ℕ → CheckAnswer
-named Fine i = Accepted
-named (Breaks why) i = Refused why i
+named (Ok x) i = accepted
+named (Err why) i = refused why i
 
 abbrev pub or_answer : CheckAnswer → CheckAnswer → CheckAnswer
-or_answer Accepted next = next
-or_answer (Refused why i) next = Refused why i
+or_answer (Ok x) next = next
+or_answer (Err r) next = Err r
 
 -- the first of rules 1 to k that breaks one
 unfoldable pub first_broken : (ℕ → RuleCheck) → ℕ → CheckAnswer
-first_broken f zero = Accepted
+first_broken f zero = accepted
 first_broken f (suc k) = or_answer (first_broken f k) (named (f (suc k)) (suc k))
 
 -- no rule, a part of a record, or over 255 rules
@@ -178,7 +192,7 @@ abbrev pub bad_length : ℕ → Bool
 bad_length len = eqb len 0 || not (eqb (len % 16) 0) || ltb 4080 len
 
 unfoldable pub check : List ℕ → CheckAnswer
-check s = cond (bad_length (length s)) (Refused Length 0) (first_broken (rule_check s) (rule_count s))
+check s = cond (bad_length (length s)) (refused Length 0) (first_broken (rule_check s) (rule_count s))
 
 -- ---- what an answer says of the rules, in document 01's words
 

@@ -4,8 +4,18 @@
 ghost use Rattle.std.specs.Prelude.{◌≡◌, true, ◌+◌, ◌*◌, ◌≤◌, length};
 ghost use Rattle.xdr.specs.Items.{numbers_at};
 ghost use Rattle.rules.specs.Opcodes.{action_of, machine_number, sets, flags_of};
-ghost use Rattle.rules.specs.Records.{record_widths, rule_in, declared_in, no_record, record_of};
+ghost use Rattle.rules.specs.Records.{record_widths, rule_in, declared_in, no_record, rule_count, record_of};
 ghost use Rattle.rules.specs.Checks.{check_number};
+
+// The octets of a rule record.
+pub const RECORD_SIZE: usize = 16;
+
+// What a rule set is limited to: its rules, the calls open at a time, the items queued at a time.
+pub const MAX_RULES: usize = 255;
+
+pub const MAX_CALLS: usize = 4;
+
+pub const MAX_ITEMS: usize = 16;
 
 // A rule as the machine is fed it.
 #[derive(Clone, Copy)]
@@ -88,46 +98,53 @@ pub enum CheckRefusal {
     Successor,
 }
 
-// What one rule was found to be.
+// A refusal, and the rule that it names; 0 with a wrong length.
 #[derive(Clone, Copy)]
-pub enum RuleCheck {
-    Fine,
-    Breaks(CheckRefusal),
-}
-
-// A refusal names the rule; 0 with a wrong length.
-#[derive(Clone, Copy)]
-pub enum CheckAnswer {
-    Accepted,
-    Refused(CheckRefusal, usize),
+pub struct CheckRefused {
+    pub why: CheckRefusal,
+    pub rule: usize,
 }
 
 // Document 01's number of a refusal.
-pub fn refusal_number(why: CheckRefusal) -> u32
-    ensures { result ≡ check_number why }
-{
-    match why {
-        CheckRefusal::Length => 30,
-        CheckRefusal::Mark => 31,
-        CheckRefusal::Attribute => 32,
-        CheckRefusal::Opcode => 33,
-        CheckRefusal::Limits => 34,
-        CheckRefusal::FirstRule => 35,
-        CheckRefusal::ReturnInMain => 36,
-        CheckRefusal::Target => 37,
-        CheckRefusal::Queue => 38,
-        CheckRefusal::Successor => 39,
+impl From<CheckRefusal> for u32 {
+    ghost from_gives = { λ why number. number ≡ check_number why };
+
+    fn from(why: CheckRefusal) -> u32 {
+        match why {
+            CheckRefusal::Length => 30,
+            CheckRefusal::Mark => 31,
+            CheckRefusal::Attribute => 32,
+            CheckRefusal::Opcode => 33,
+            CheckRefusal::Limits => 34,
+            CheckRefusal::FirstRule => 35,
+            CheckRefusal::ReturnInMain => 36,
+            CheckRefusal::Target => 37,
+            CheckRefusal::Queue => 38,
+            CheckRefusal::Successor => 39,
+        }
+    }
+}
+
+// Document 01's number of an answer: its opcode's.
+impl From<MachineAnswer> for u32 {
+    ghost from_gives = { λ answer number. number ≡ machine_number answer };
+
+    fn from(answer: MachineAnswer) -> u32 {
+        match answer {
+            MachineAnswer::Ignore => 1,
+            MachineAnswer::NoMatch => 2,
+            MachineAnswer::Count => 3,
+            MachineAnswer::CountPkt => 4,
+        }
     }
 }
 
 // Whether an opcode's goto flag is set: always, from 6 up to the last, 17.
+#[tactic(auto, using(std::proofs::lemmas::Bool::Decides::nat_tests, crate::proofs::Flags::goto_exactly))]
 fn goto_flag(opcode: u8) -> bool
     ensures { result ≡ (flags_of opcode).goto }
 {
-    if opcode < 6 {
-        return false;
-    }
-    opcode <= 17
+    6 <= opcode && opcode <= 17
 }
 
 // The test flag of an opcode whose goto flag is set: on exactly for even numbers.
@@ -163,18 +180,6 @@ pub fn action_of(opcode: u8) -> Action
     }
 }
 
-// Document 01's number of an answer: its opcode's.
-pub fn machine_number(answer: MachineAnswer) -> u32
-    ensures { result ≡ machine_number answer }
-{
-    match answer {
-        MachineAnswer::Ignore => 1,
-        MachineAnswer::NoMatch => 2,
-        MachineAnswer::Count => 3,
-        MachineAnswer::CountPkt => 4,
-    }
-}
-
 // What stands for a record that is not there.
 fn no_record() -> RuleRecord
     ensures { result ≡ no_record }
@@ -196,13 +201,6 @@ fn no_record() -> RuleRecord
     }
 }
 
-// An octet as a rule's number.
-fn number_of(x: u8) -> usize
-    ensures { result ≡ x }
-{
-    x as usize
-}
-
 // What the machine is fed of the record at an offset.
 fn rule_in(s: &[u8], at: usize) -> Rule
     requires { at + 16 ≤ length s.now }
@@ -213,7 +211,7 @@ fn rule_in(s: &[u8], at: usize) -> Rule
         opcode: s[at + 3],
         mask: xdr::word_of(s[at + 4], s[at + 5], s[at + 6], s[at + 7]),
         value: xdr::word_of(s[at + 8], s[at + 9], s[at + 10], s[at + 11]),
-        parameter: number_of(s[at + 12]),
+        parameter: usize::from(s[at + 12]),
     }
 }
 
@@ -223,23 +221,25 @@ fn declared_in(s: &[u8], at: usize) -> Declared
     ensures { result ≡ declared_in (numbers_at s.now at record_widths) }
 {
     Declared {
-        home: number_of(s[at + 13]),
+        home: usize::from(s[at + 13]),
         depth: s[at + 14],
         held: s[at + 15],
     }
 }
 
-// Record i of a rule set, the first being 1.
-pub fn record_at(s: &[u8], i: usize) -> RuleRecord
+// How many rules there are in octets.
+pub fn rule_count(s: &[u8]) -> usize
+    ensures { result ≡ rule_count s.now }
+{
+    s.len() / RECORD_SIZE
+}
+
+// Record i of a rule set, the first being 1, where there is one.
+pub fn record_of(s: &[u8], i: usize) -> RuleRecord
+    requires { (1 ≤ i) × (i ≤ rule_count s.now) }
     ensures { result ≡ record_of s.now i }
 {
-    if i < 1 {
-        return no_record();
-    }
-    if s.len() / 16 < i {
-        return no_record();
-    }
-    let at = 16 * (i - 1);
+    let at = RECORD_SIZE * (i - 1);
     let mark = xdr::pair_of(s[at], s[at + 1]);
     let rule = rule_in(s, at);
     let declared = declared_in(s, at);
@@ -248,4 +248,14 @@ pub fn record_at(s: &[u8], i: usize) -> RuleRecord
         rule,
         declared,
     }
+}
+
+// Record i of a rule set; what stands for it where there is none.
+pub fn record_at(s: &[u8], i: usize) -> RuleRecord
+    ensures { result ≡ record_of s.now i }
+{
+    if i < 1 || rule_count(s) < i {
+        return no_record();
+    }
+    record_of(s, i)
 }

@@ -1,6 +1,6 @@
 -- Document 01's starred cases: one table of the definitions under one statement. Each case is evaluated by the definition that the public function's
 -- contract cites.
-use Rattle.std.specs.Prelude.{ℕ, zero, suc, ◌≡◌, List, [], ◌∷◌, ◌++◌, take, get_or, replicate}
+use Rattle.std.specs.Prelude.{ℕ, zero, suc, ◌≡◌, List, [], ◌∷◌, ◌++◌, take, get_or, replicate, Ok, Err}
 use Rattle.std.proofs.Math.Option.{some}
 use Rattle.form_writer.specs.declared.parts.WriteAnswer.{WriteAnswer}
 use Rattle.xdr.specs.Writes.{Afterwards, afterwards}
@@ -13,11 +13,8 @@ use Rattle.form_writer.specs.declared.parts.WriteAnswer.TheVariants.{Done, BadLi
 use Rattle.form_writer.specs.Parts.{write_number}
 use Rattle.sample_writer.specs.CounterValues.{counters_value}
 use Rattle.writer.specs.Datagrams.{started, appended}
-use Rattle.rules.specs.declared.CheckAnswer.{CheckAnswer}
-use Rattle.rules.specs.declared.CheckAnswer.TheVariants.{Accepted, Refused as RefusedSet}
-use Rattle.rules.specs.Checks.{check_number as check_number, check}
-use Rattle.engine.specs.declared.EngineResult.{EngineResult}
-use Rattle.engine.specs.Results.{engine_number as engine_number, rule_named, zero_key, engine_of}
+use Rattle.rules.specs.Checks.{CheckAnswer, accepted, check_number, check}
+use Rattle.engine.specs.Results.{EngineAnswer, engine_number, rule_named, rules_in, key_in, zero_key, engine_of}
 use Rattle.ledger.specs.declared.FlowEntry.{FlowEntry}
 use Rattle.ledger.specs.declared.Row.{Row}
 use Rattle.ledger.specs.declared.EntryAnswer.TheVariants.{Entered}
@@ -81,12 +78,12 @@ after_appends (suc n) =
 -- ---- 12 to 16: check and engine
 
 abbrev Breaks : CheckAnswer → ℕ → ℕ → Type 0
-Breaks Accepted number rule = ⊥
-Breaks (RefusedSet why i) number rule = (check_number why ≡ number) × (i ≡ rule)
+Breaks (Ok x) number rule = ⊥
+Breaks (Err r) number rule = (check_number r.why ≡ number) × (r.rule ≡ rule)
 
 -- the answer's number, the rule named, the rules come to, and a key of zeros
-abbrev Gives : EngineResult → ℕ → ℕ → ℕ → Type 0
-Gives r number rule rules = (engine_number r.answer ≡ number) × (rule_named r.answer ≡ rule) × (r.rules ≡ rules) × (r.key ≡ zero_key)
+abbrev Gives : EngineAnswer → ℕ → ℕ → ℕ → Type 0
+Gives a number rule rules = (engine_number a ≡ number) × (rule_named a ≡ rule) × (rules_in a ≡ rules) × (key_in a ≡ zero_key)
 
 -- ---- 17: the ledger
 
@@ -106,7 +103,7 @@ abbrev pub Holds : Case → Type 0
 Holds (refuses s number place) = Refuses (datagram_read s) number place
 Holds (accepts s h) = datagram_read s ≡ Found h
 Holds (appends n number size) = ((after_appends n).number ≡ number) × ((after_appends n).size ≡ size)
-Holds (runs s number rules) = (check s ≡ Accepted) × Gives (engine_of s flow_sample) number 0 rules
+Holds (runs s number rules) = (check s ≡ accepted) × Gives (engine_of s flow_sample) number 0 rules
 Holds (breaks s number rule) = Breaks (check s) number rule × Gives (engine_of s flow_sample) number rule 0
 Holds (enters x y pool lost) =
     ((first x).answer ≡ Entered) × ((second x y).answer ≡ Entered) × ((row_after x y).pool_total ≡ pool) × ((row_after x y).lost_total ≡ lost)

@@ -1,5 +1,5 @@
 -- The three demands, each with its sentence.
-use Rattle.std.specs.Prelude.{ℕ, ◌+◌, ◌≤◌, ◌<◌, ◌≡◌, ◌↔◌, ◌⊎◌, ◌≢◌, true, false, length, get_or}
+use Rattle.std.specs.Prelude.{ℕ, ◌+◌, ◌≤◌, ◌<◌, ◌≡◌, ◌↔◌, ◌⊎◌, ◌≢◌, true, false, length, get_or, Ok}
 use mathlib.Core.List.{List, flat_map}
 use Rattle.std.proofs.Math.Option.{Option, some}
 use Rattle.xdr.specs.Numbers.{Octets}
@@ -21,14 +21,12 @@ use Rattle.ledger.specs.declared.EntryAnswer.TheVariants.{Entered, TableFull, Ot
 use Rattle.ledger.specs.Ledger.{Source, source_of, answered, opened, updated, row_for, free_row, with_row, entered}
 use Rattle.ledger.specs.Runs.{Lowest, Grown, AllOthers, NoRow, NoSample, FirstOf}
 use Rattle.packet.specs.Attributes.{attributes_of, attribute}
-use Rattle.rules.specs.declared.CheckAnswer.TheVariants.{Accepted}
 use Rattle.rules.specs.declared.Item.{Item}
 use Rattle.rules.specs.declared.MachineAnswer.{MachineAnswer}
 use Rattle.rules.specs.Records.{rule_count, rule_of}
 use Rattle.rules.specs.Machine.{ended, after}
-use Rattle.rules.specs.Checks.{check}
+use Rattle.rules.specs.Checks.{accepted, check}
 use Rattle.rules.specs.Demand.{bound, MachineWithin, WithoutGosub, EndedWith, EndsSomewhere}
-use Rattle.engine.specs.declared.EngineAnswer.TheVariants.{Ended}
 use Rattle.engine.specs.Results.{flow, flow_in, key_of, engine_of}
 use Rattle.theorems.specs.Numbers.{InNumbers}
 use Rattle.reader.proofs.datagram.read_head.Statement as ReadHead
@@ -179,7 +177,7 @@ pub record OfAccepted (s : List ℕ) : Type 0 where
   -- whenever the machine has ended on the sample's attributes, the engine gives that end: its answer, its key and its count
   pub engine : (x : List ℕ) (f : FlowSample) → flow_in x ≡ flow f → (k : ℕ) (answer : MachineAnswer) (items : List Item) (rules : ℕ)
       → after (rule_count s) (rule_of s) (attribute (attributes_of x f)) k ≡ ended answer items rules
-      → engine_of s x ≡ record { answer = Ended answer; key = key_of items; rules = rules }
+      → engine_of s x ≡ Ok (record { answer = answer; key = key_of items; rules = rules })
 
 abbrev pub Demand3 : Type 0
-Demand3 = (s : List ℕ) → check s ≡ Accepted → OfAccepted s
+Demand3 = (s : List ℕ) → check s ≡ accepted → OfAccepted s

@@ -28,10 +28,8 @@ use Rattle.ledger.specs.declared.Row.{Row}
 use Rattle.ledger.specs.declared.EntryAnswer.{EntryAnswer}
 use Rattle.ledger.specs.declared.TableEntered.{TableEntered}
 use Rattle.ledger.specs.Ledger.{entry_number, updated, entered}
-use Rattle.rules.specs.declared.CheckAnswer.{CheckAnswer}
-use Rattle.rules.specs.Checks.{check}
-use Rattle.engine.specs.declared.EngineResult.{EngineResult}
-use Rattle.engine.specs.Results.{engine_of}
+use Rattle.rules.specs.Checks.{CheckAnswer, check}
+use Rattle.engine.specs.Results.{EngineAnswer, engine_of}
 use Rattle.record_lines.specs.Lines.{write_line}
 use Rattle.listing.specs.declared.Frame.{Frame}
 use Rattle.listing.specs.declared.State.{State}
@@ -76,7 +74,7 @@ pub record InNumbers : Type 1 where
       → LentRowTold row x (entry_number r) after
   -- ---- rule sets: 30 to 39 with the rule named; 18; the machine's answer, 1 to 4
   pub checked : (s : List ℕ) (r : CheckAnswer) → r ≡ check s → CheckTold s (check_report r)
-  pub run : (s x : List ℕ) (r : EngineResult) → r ≡ engine_of s x → RunTold s x (engine_report r)
+  pub run : (s x : List ℕ) (r : EngineAnswer) → r ≡ engine_of s x → RunTold s x (engine_report r)
   -- ---- listing: why it stopped; what follows the last record; what a part of a capture begins with
   pub records : (d s : List ℕ) (t : State) (r : Place) (e : List ℕ) → afterwards r e ≡ list_all d s t → RecordsTold e s r
   pub end_lines_told : (d : List ℕ) (at : ℕ) (t : State) (bad : Bool) (r : Written) (e : List ℕ) → afterwards r e ≡ write_line 123 d at (end_lines t bad)

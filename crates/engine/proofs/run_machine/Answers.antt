@@ -1,42 +1,36 @@
 use native.Mathlib.Omega.{arith}
-use Rattle.engine.proofs.Follows.{more, live, stepped, stepped_rules, finished}
-use mathlib.Core.Path.{◌≡◌, refl, sym}
-use Rattle.rules.specs.Records.{rule_count, rule_of}
-use Rattle.rules.specs.Machine.{running, initial, after}
+use mathlib.Core.Path.{refl}
+use Rattle.rules.specs.Machine.{after}
 use Rattle.packet.specs.Attributes.{attribute}
-use borrow.Author.Rules.{rules}
+use Rattle.engine.proofs.Follows.{more, live, one_more, runs_on, ends}
 use Rattle.engine.proofs.run_machine.Goals as goal
 
-pub loop-m-init : goal.loop-m-init
-loop-m-init c =
-    let e = c.start-m.ensures in
-    let entry = c.args in
-    let k : after (rule_count entry.s.now) (rule_of entry.s.now) (attribute entry.a) 0 ≡ running initial = unfold after in refl in
-    rw e (sym k, refl, refl)
+pub loop-answer-init : goal.loop-answer-init
+unfolding after
+loop-answer-init c = let start = c.new-m.ensures in rw start refl
 
-pub step_once-m-requires : goal.step_once-m-requires
-step_once-m-requires c =
-    live c.args.s.now c.requires
-    (attribute c.args.a) c.loop-m.m c.loop-m.invariant.0 c.loop-m-test.true
-    c.loop-m.invariant.1 c.loop-m.invariant.2
+pub step_once-requires : goal.step_once-requires
+step_once-requires c =
+    let count = c.rule_count-n.ensures in
+    rw count (live c.args.s.now c.requires (attribute c.args.a) c.loop-answer.m c.loop-answer.invariant)
 
-pub loop-m-smaller : goal.loop-m-smaller
-loop-m-smaller c =
-    let r =
-    (stepped_rules c.args.s.now c.requires (attribute c.args.a) c.loop-m.m c.loop-m.invariant.0 c.loop-m-test.true
-    c.step_once-m.result c.step_once-m.ensures) in
-    let h =
-    (more c.args.s.now c.requires (attribute c.args.a) c.loop-m.m c.loop-m.invariant.0 c.loop-m-test.true) in
-    omega (arith, r, h)
+pub returns-in-Some : goal.returns-in-Some
+returns-in-Some c =
+    let key = c.key_of-key.ensures in
+    let step = rw c.rule_count-n.ensures at c.step_once.ensures in
+    rw key
+    (ends c.args.s.now c.requires (attribute c.args.a) c.loop-answer.m c.loop-answer.invariant c.step_once.result c.step_once.new.m step
+    c.in-Some.answer c.in-Some.is)
 
-pub loop-m-preserved : goal.loop-m-preserved
-loop-m-preserved c =
-    let next =
-    (stepped c.args.s.now c.requires (attribute c.args.a) c.loop-m.m c.loop-m.invariant.0 c.loop-m-test.true
-    c.step_once-m.result c.step_once-m.ensures) in
-    (next, search rules, search rules)
+pub loop-answer-smaller : goal.loop-answer-smaller
+loop-answer-smaller c =
+    let step = rw c.rule_count-n.ensures at c.step_once.ensures in
+    let before = more c.args.s.now c.requires (attribute c.args.a) c.loop-answer.m c.loop-answer.invariant in
+    let behind =
+    one_more c.args.s.now c.requires (attribute c.args.a) c.loop-answer.m c.loop-answer.invariant c.step_once.result c.step_once.new.m step c.in_default.is in
+    omega (arith, before, behind)
 
-pub returns : goal.returns
-returns c =
-    finished c.args.s.now c.requires
-    (attribute c.args.a) c.loop-m.m c.loop-m.invariant.0 c.loop-m-test.false
+pub loop-answer-preserved : goal.loop-answer-preserved
+loop-answer-preserved c =
+    let step = rw c.rule_count-n.ensures at c.step_once.ensures in
+    runs_on c.args.s.now c.requires (attribute c.args.a) c.loop-answer.m c.loop-answer.invariant c.step_once.result c.step_once.new.m step c.in_default.is

@@ -1,34 +1,17 @@
-use mathlib.Core.Path.{◌∙◌, sym, refl}
+use mathlib.Core.Path.{refl, sym, ◌∙◌}
 use Rattle.numbers.proofs.Reports.{telling, then_behind}
 use Rattle.rule_calls.proofs.run.Goals as goal
 
-pub run-result-requires : goal.run-result-requires
-run-result-requires c = tt
+pub returns-in-Ok : goal.returns-in-Ok
+returns-in-Ok c =
+    let ended = sym c.run-answer.ensures ∙ c.in-Ok.is in
+    rw ended
+    (telling (rw c.in-Ok.is at c.answer_number-number.ensures)
+    (then_behind _ _ _ _ _ 2 refl c.fill.ensures c.fill_key.ensures))
 
-pub rule_named-named-requires : goal.rule_named-named-requires
-rule_named-named-requires c = tt
-
-pub slice_bounds-fill-end : goal.slice_bounds-fill-end
-slice_bounds-fill-end c = refl
-
-pub fill-requires : goal.fill-requires
-fill-requires c = tt
-
-pub fill_key-requires : goal.fill_key-requires
-fill_key-requires c = tt
-
-pub answer_number-requires : goal.answer_number-requires
-answer_number-requires c = tt
-
-pub shape_of-out : goal.shape_of-out
-shape_of-out c = c.out-2-1.given ∙ c.out-1.given
-
-pub returns : goal.returns
-returns c =
-    rw (
-      sym c.run-result.ensures,
-      sym c.rule_named-named.ensures,
-    )
-    (telling c.answer_number.ensures
-    (then_behind _ _ _ _ _ 2 refl
-    c.fill.ensures c.fill_key.ensures))
+pub returns-in-Err : goal.returns-in-Err
+returns-in-Err c =
+    let refused = sym c.run-answer.ensures ∙ c.in-Err.is in
+    rw (refused, sym c.rule_named.ensures)
+    (telling (rw c.in-Err.is at c.answer_number-number.ensures)
+    (then_behind _ _ _ _ _ 2 refl c.fill-in-Err.ensures c.fill_behind.ensures))

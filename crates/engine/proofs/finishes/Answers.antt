@@ -1,4 +1,0 @@
-use Rattle.engine.proofs.finishes.Goals as goal
-
-pub returns : goal.returns
-returns c = rw c.machine_number-number.ensures
