@@ -1,6 +1,6 @@
 -- Document 01's starred cases: one table of the definitions under one statement. Each case is evaluated by the definition that the public function's
 -- contract cites.
-use Rattle.std.specs.Prelude.{ℕ, zero, suc, ◌≡◌, List, [], ◌∷◌, ◌++◌, take, get_or, replicate}
+use Rattle.std.specs.Prelude.{ℕ, zero, suc, ◌≡◌, Ok, List, [], ◌∷◌, ◌++◌, take, get_or, replicate}
 use Rattle.std.proofs.Math.Option.{some}
 use Rattle.form_writer.specs.declared.parts.WriteAnswer.{WriteAnswer}
 use Rattle.xdr.specs.Writes.{Afterwards, afterwards}
@@ -20,9 +20,7 @@ use Rattle.engine.specs.declared.EngineResult.{EngineResult}
 use Rattle.engine.specs.Results.{engine_number as engine_number, rule_named, zero_key, engine_of}
 use Rattle.ledger.specs.declared.FlowEntry.{FlowEntry}
 use Rattle.ledger.specs.declared.Row.{Row}
-use Rattle.ledger.specs.declared.EntryAnswer.TheVariants.{Entered}
-use Rattle.ledger.specs.declared.TableEntered.{TableEntered}
-use Rattle.ledger.specs.Ledger.{free_row, entered}
+use Rattle.ledger.specs.Ledger.{TableEntered, free_row, entered}
 use Rattle.theorems.specs.Inputs.{
   no_samples,
   one_sample,
@@ -109,7 +107,7 @@ Holds (appends n number size) = ((after_appends n).number ≡ number) × ((after
 Holds (runs s number rules) = (check s ≡ Accepted) × Gives (engine_of s flow_sample) number 0 rules
 Holds (breaks s number rule) = Breaks (check s) number rule × Gives (engine_of s flow_sample) number rule 0
 Holds (enters x y pool lost) =
-    ((first x).answer ≡ Entered) × ((second x y).answer ≡ Entered) × ((row_after x y).pool_total ≡ pool) × ((row_after x y).lost_total ≡ lost)
+    ((first x).answer ≡ Ok tt) × ((second x y).answer ≡ Ok tt) × ((row_after x y).pool_total ≡ pool) × ((row_after x y).lost_total ≡ lost)
 
 abbrev pub AllHold : List Case → Type 0
 AllHold [] = Unit {0}

@@ -25,9 +25,7 @@ use Rattle.form_writer.specs.Parts.{write_given}
 use Rattle.writer.specs.Datagrams.{started, appended}
 use Rattle.ledger.specs.declared.FlowEntry.{FlowEntry}
 use Rattle.ledger.specs.declared.Row.{Row}
-use Rattle.ledger.specs.declared.EntryAnswer.{EntryAnswer}
-use Rattle.ledger.specs.declared.TableEntered.{TableEntered}
-use Rattle.ledger.specs.Ledger.{entry_number, updated, entered}
+use Rattle.ledger.specs.Ledger.{EntryAnswer, TableEntered, entry_number, updated, entered}
 use Rattle.rules.specs.declared.CheckAnswer.{CheckAnswer}
 use Rattle.rules.specs.Checks.{check}
 use Rattle.engine.specs.declared.EngineResult.{EngineResult}
