@@ -14,7 +14,8 @@ pub struct FlowEntry {
     pub words: FlowWords,
 }
 
-// A row: whether it is in use, its source, the numbers that the source's last sample had, and the totals.
+// A row: whether it is in use, its source, the numbers that the source's last sample had, and the totals. A free row has values too, which stay as they are
+// until it opens, so `used` stands beside them.
 #[derive(Clone, Copy)]
 pub struct Row {
     pub used: bool,

@@ -142,24 +142,14 @@ fn stand_at(listed: usize, state: State, bad: bool, failed: bool) -> Progress
 fn is_full(stop: Stop) -> bool
     ensures { result ≡ is_full stop }
 {
-    match stop {
-        Stop::GoesOn => false,
-        Stop::NoRecord => false,
-        Stop::Output => true,
-        Stop::BadRecord => false,
-    }
+    matches!(stop, Stop::Output)
 }
 
 // Whether it stopped at a bad record.
 fn is_bad(stop: Stop) -> bool
     ensures { result ≡ is_bad stop }
 {
-    match stop {
-        Stop::GoesOn => false,
-        Stop::NoRecord => false,
-        Stop::Output => false,
-        Stop::BadRecord => true,
-    }
+    matches!(stop, Stop::BadRecord)
 }
 
 // Lists all whole records held and writes their lines.

@@ -367,32 +367,30 @@ pub enum Listed {
     Accepted(usize, u32),
     // a refused record: the offset behind its line
     Refused(usize),
-    // the room may be too short, and nothing was written
-    NoRoom,
 }
 
-// Lists a record's datagram at an offset of the output, with the record's number.
-pub fn list_record(d: &mut [u8], at: usize, index: u64, s: &[u8]) -> Listed
+// Lists a record's datagram at an offset of the output, with the record's number; none where the room may be too short, and then nothing is written.
+pub fn list_record(d: &mut [u8], at: usize, index: u64, s: &[u8]) -> Option<Listed>
     ensures { afterwards result d.new ≡ list_record d.old at index s.now }
 {
     if d.len() < at {
-        return Listed::NoRoom;
+        return None;
     }
     if d.len() - at < 164 {
-        return Listed::NoRoom;
+        return None;
     }
     match reader::datagram::read(s) {
         HeadRead::Refused(why, p) => {
             let n = sflow::refusal_number(why);
-            Listed::Refused(refused_line(d, at, index, n, p))
+            Some(Listed::Refused(refused_line(d, at, index, n, p)))
         }
         HeadRead::Found(head) => {
             let count = head.samples.count;
             if (d.len() - at - 164) / 136 < count as usize {
-                return Listed::NoRoom;
+                return None;
             }
             let next = agent_line(d, at, index, head, s.len());
-            Listed::Accepted(sample_lines(d, next, s, head.samples.at, count), count)
+            Some(Listed::Accepted(sample_lines(d, next, s, head.samples.at, count), count))
         }
     }
 }

@@ -31,7 +31,7 @@ use Rattle.rules.specs.Checks.{check}
 use Rattle.engine.specs.declared.EngineResult.{EngineResult}
 use Rattle.engine.specs.Results.{engine_of}
 use Rattle.record_lines.specs.Lines.{write_line}
-use Rattle.listing.specs.declared.Frame.{Frame}
+use Rattle.listing.specs.Captures.{Frame}
 use Rattle.listing.specs.declared.State.{State}
 use Rattle.listing.specs.declared.Place.{Place}
 use Rattle.listing.specs.Captures.{frame_of, list_all}

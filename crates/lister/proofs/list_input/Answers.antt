@@ -1,6 +1,6 @@
-use Rattle.std.proofs.Common.{rules, arith, sym, ◌∙◌, ap, subst, cond, Bool, [], ◌-◌, take}
+use Rattle.std.proofs.Common.{rules, arith, sym, ◌∙◌, ap, subst, cond, Bool, [], ◌-◌, take, Err}
 use Rattle.listing.specs.Captures.{frame_of}
-use Rattle.listing.specs.declared.Frame.TheVariants.{Short, Wrong}
+use Rattle.listing.specs.declared.FrameFault.TheVariants.{Short, Wrong}
 use Rattle.listing.proofs.Captures.{frame_short}
 use Rattle.lister.proofs.Parts.{front_inside}
 use Rattle.lister.proofs.Stream.{Streamed, streamed_begins, streamed_listed, after_read, ends_at_end, ends_at_bad, moved_to_front, room_left}
@@ -26,7 +26,7 @@ returns-then-p-2 g c = λ done room.
     let l = c.list_held-p.ensures in
     let read = after_read _ _ _ _ _ _ _ _ _ _ i.2 f.inside.0 f.inside.1 f.front (f.read c.if-filled.false) in
     let listed = streamed_listed _ _ _ _ _ _ read _ _ l.records c.if-p.false in
-    let bad = l.listed.left c.if-p.false ∙ ap (λ (b : Bool). cond b Wrong Short) c.if-p-2.true in
+    let bad = l.listed.left c.if-p.false ∙ ap (λ (b : Bool). cond b (Err Wrong) (Err Short)) c.if-p-2.true in
     ends_at_bad _ _ _ _ _ _ c.fill-filled.new.input c.list_held-p.result.listed c.fill-filled.result.end listed (front_inside _ _ _ l.listed.inside) bad (c.finish-then-p-2.ensures done)
 
 pub loop-preserved : goal.loop-preserved
@@ -36,7 +36,7 @@ loop-preserved g c =
     let l = c.list_held-p.ensures in
     let read = after_read _ _ _ _ _ _ _ _ _ _ i.2 f.inside.0 f.inside.1 f.front (f.read c.if-filled.false) in
     let listed = streamed_listed _ _ _ _ _ _ read _ _ l.records c.if-p.false in
-    let unfinished = l.listed.left c.if-p.false ∙ ap (λ (b : Bool). cond b Wrong Short) c.if-p-2.false in
+    let unfinished = l.listed.left c.if-p.false ∙ ap (λ (b : Bool). cond b (Err Wrong) (Err Short)) c.if-p-2.false in
     let low = front_inside _ _ _ l.listed.inside in
     let end = c.fill-filled.result.end in
     let from = c.list_held-p.result.listed in
