@@ -30,6 +30,7 @@ use reader::sample::{Sample, SampleValues};
 use xdr::Written;
 
 // Puts octets at an offset and answers the offset behind them.
+// A buffer and an offset stay two parameters, here and below: a struct that holds both needs in each contract one clause more, that it holds the same lent buffer.
 fn put(d: &mut [u8], at: usize, s: &[u8]) -> usize
     requires { at + length s.now ≤ length d.old }
     ensures { Puts d.old at s.now result d.new }
