@@ -1,4 +1,3 @@
-pub mod Sources
 pub mod Updates
 pub mod Tables
 pub mod Sameness

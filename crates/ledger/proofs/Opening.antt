@@ -1,25 +1,27 @@
 -- What a run of samples leaves of a source that has no row when it begins. Assumes nothing.
-use Rattle.std.proofs.Common.{◌≡◌, ℕ, zero, suc, ◌+◌, ◌%◌, ◌^◌, ◌<◌, ◌≤◌, Bool, true, false, cond, ◌&&◌, ltb, ◌⊎◌, List, [], ◌∷◌, ◌++◌, length, get_or, set, sym, refl, ap, ◌∙◌, subst, inl, inr, arith, length-set, get_or-set_same, ltb-false, ltb-true, le-ltb, lt-ltb}
+use Rattle.std.proofs.Common.{◌≡◌, ℕ, zero, suc, ◌+◌, ◌%◌, ◌^◌, ◌<◌, ◌≤◌, Bool, true, false, cond, ◌&&◌, ltb, ◌⊎◌, ◌≢◌, Ok, Err, List, [], ◌∷◌, ◌++◌, length, get_or, set, sym, refl, ap, ◌∙◌, subst, inl, inr, arith, length-set, get_or-set_other, get_or-set_same, ltb-false, ltb-true, le-ltb, lt-ltb}
 use Rattle.xdr.proofs.Tests.{and_parts}
 use Rattle.ledger.specs.declared.FlowEntry.{FlowEntry}
 use Rattle.ledger.specs.declared.Row.{Row}
-use Rattle.ledger.specs.declared.EntryAnswer.TheVariants.{Entered, TableFull}
-use Rattle.ledger.specs.declared.RowEntered.{RowEntered}
-use Rattle.ledger.specs.declared.TableEntered.{TableEntered}
+use Rattle.ledger.specs.declared.EntryRefusal.TheVariants.{TableFull}
+use Rattle.ledger.specs.Ledger.{RowEntered}
+use Rattle.ledger.specs.Ledger.{TableEntered}
 use Rattle.ledger.specs.Ledger.{entry_number, Source, same, source_of, row_source, same_source, opened, advanced, later, updated, is_of, is_free, first_row, free_row, entered}
+use Rattle.std.proofs.lemmas.List.Sums.{position_or_len_is, passes_at_first, fails_before_first}
+use Rattle.std.proofs.lemmas.List.Folds.{position_or_len-set}
 use Rattle.ledger.specs.Runs.{table_after, accepts, accepted_later, lost_sum, pool_sum, Lowest, AllOthers, NoRow, NoSample, LowestFree, OpensInside, RefusedInside, FirstOf}
 use Rattle.ledger.proofs.Updates.{opens, of_source}
 use Rattle.ledger.proofs.Sameness.{same_self}
-use Rattle.ledger.proofs.Tables.{first_passes, first_none, none_first}
+use Rattle.ledger.proofs.Tables.{first_none, none_first}
 use Rattle.ledger.proofs.Answers.{full_exactly, table_kept, used_told}
-use Rattle.ledger.proofs.Theorems.{first_set, unused, later_source, later_used, own_other, free_other, stepped, totals_grow}
+use Rattle.ledger.proofs.Theorems.{unused, later_source, later_used, own_other, free_other, stepped, totals_grow}
 
 -- ---- a source without a row keeps none while samples of other sources are entered
 
 -- a row that is and stays another's is brought up to date
 none_set : (s : Source) (rows : List Row) (j : ℕ) (r : Row) → first_row (is_of s) rows ≡ length rows
     → (is_of s (get_or rows j free_row) ≡ false) × (is_of s r ≡ false) → first_row (is_of s) (set rows j r) ≡ length (set rows j r)
-none_set s rows j r h o = first_set (is_of s) rows j r (o.1 ∙ sym o.0) ∙ h ∙ sym (length-set rows j r)
+none_set s rows j r h o = position_or_len-set (is_of s) rows j r free_row (o.1 ∙ sym o.0) ∙ h ∙ sym (length-set rows j r)
 
 none_entered : (s : Source) (rows : List Row) (x : FlowEntry) → first_row (is_of s) rows ≡ length rows → same s (source_of x) ≡ false
     → first_row (is_of s) (entered rows x).rows ≡ length (entered rows x).rows
@@ -31,11 +33,11 @@ none_entered s rows x h e = go (ltb (first_row (is_of (source_of x)) rows) (leng
     go true f b g =
         let j = first_row (is_of (source_of x)) rows in
         let r = (updated (get_or rows j free_row) x).row in
-        rw (f, f) (none_set s rows j r h (own_other s x e (get_or rows j free_row) (first_passes (is_of (source_of x)) rows (ltb-true _ _ f))))
+        rw (f, f) (none_set s rows j r h (own_other s x e (get_or rows j free_row) (passes_at_first (is_of (source_of x)) rows free_row (ltb-true _ _ f))))
     go false f true g =
         let j = first_row is_free rows in
         let r = (updated (get_or rows j free_row) x).row in
-        rw (f, g) (none_set s rows j r h (free_other s x e (get_or rows j free_row) (first_passes is_free rows (ltb-true _ _ g))))
+        rw (f, g) (none_set s rows j r h (free_other s x e (get_or rows j free_row) (passes_at_first is_free rows free_row (ltb-true _ _ g))))
     go false f false g = rw (f, g) h
 
 none_after : (s : Source) (xs : List FlowEntry) (rows : List Row) → first_row (is_of s) rows ≡ length rows → NoSample s xs
@@ -52,27 +54,21 @@ after_parts rows (x ∷ xs) ys = after_parts (entered rows x).rows xs ys
 
 -- the only row that passes a test is the lowest that does
 first_only : (p : Row → Bool) (rows : List Row) (i : ℕ) (r : Row) → first_row p rows ≡ length rows → i < length rows → p r ≡ true → first_row p (set rows i r) ≡ i
-unfolding first_row
-first_only p [] i r h l e = absurd (omega arith)
-first_only p (row ∷ rows) zero r h l e = rw e
-first_only p (row ∷ rows) (suc i) r h l e = go (p row) refl h (first_only p rows i r)
-  where
-    go : (b : Bool) → p row ≡ b → cond b 0 (suc (first_row p rows)) ≡ suc (length rows)
-        → (first_row p rows ≡ length rows → i < length rows → p r ≡ true → first_row p (set rows i r) ≡ i)
-        → cond b 0 (suc (first_row p (set rows i r))) ≡ suc i
-    go true f h more = absurd (omega arith)
-    go false f h more = ap suc (more (omega arith) (omega arith) e)
+first_only p rows i r h l e =
+    position_or_len_is p (set rows i r) i free_row (rw length-set (omega arith))
+    (λ k m. let n : k ≢ i = omega arith in rw get_or-set_other (first_none p rows (omega arith) k (omega arith)))
+    (λ m. rw get_or-set_same e)
 
 module _ (rows : List Row) (x : FlowEntry) (none : first_row (is_of (source_of x)) rows ≡ length rows) (i : ℕ) (l : LowestFree rows i) where
   -- the table behind it
-  opens_row : entered rows x ≡ record { answer = Entered; rows = set rows i (opened x) }
+  opens_row : entered rows x ≡ record { answer = Ok tt; rows = set rows i (opened x) }
   unfolding entered
   opens_row =
       let over : length rows ≤ first_row (is_of (source_of x)) rows = omega arith in
       let past : ltb (first_row (is_of (source_of x)) rows) (length rows) ≡ false = le-ltb _ _ over in
       let first = l.first in
       let there : first_row is_free rows < length rows = rw first l.inside in
-      let free : (get_or rows i free_row).used ≡ false = unused _ (rw first at (first_passes is_free rows there)) in
+      let free : (get_or rows i free_row).used ≡ false = unused _ (rw first at (passes_at_first is_free rows free_row there)) in
       let low : ltb i (length rows) ≡ true = lt-ltb _ _ l.inside in
       rw (past, first, low, sym (opens (get_or rows i free_row) x free))
 
@@ -90,10 +86,10 @@ no_row_free rows x past h i l =
     (u, sym (ap (λ (b : Bool). b && same (row_source (get_or rows i free_row)) (source_of x)) u) ∙ first_none (is_of (source_of x)) rows past i l)
 
 -- a full table stays
-full_stays : (rows : List Row) (x : FlowEntry) → (entered rows x).answer ≡ TableFull → (entered rows x).rows ≡ rows
+full_stays : (rows : List Row) (x : FlowEntry) → (entered rows x).answer ≡ Err TableFull → (entered rows x).rows ≡ rows
 full_stays rows x f = go (table_kept rows x)
   where
-    go : ((entered rows x).answer ≡ Entered) ⊎ ((entered rows x).rows ≡ rows) → (entered rows x).rows ≡ rows
+    go : ((entered rows x).answer ≡ Ok tt) ⊎ ((entered rows x).rows ≡ rows) → (entered rows x).rows ≡ rows
     go (inl e) = let z : ◌≡◌ {A = ℕ} 0 40 = ap entry_number (sym e ∙ f) in absurd (omega arith)
     go (inr e) = e
 
@@ -114,8 +110,8 @@ full_set s rows j y h o =
     let p = and_parts row.used (same (row_source row) (source_of y)) o in
     let e : r ≡ (later row y).row = ap (λ (u : RowEntered). u.row) (sym (of_source row y p.0 p.1)) in
     record {
-      used = first_set is_free rows j r (ap is_free e ∙ later_used row y p.0) ∙ h.used ∙ sym (length-set rows j r);
-      others = first_set (is_of s) rows j r (ap (is_of s) e ∙ later_source s row y p.0) ∙ h.others ∙ sym (length-set rows j r);
+      used = position_or_len-set is_free rows j r free_row (ap is_free e ∙ later_used row y p.0) ∙ h.used ∙ sym (length-set rows j r);
+      others = position_or_len-set (is_of s) rows j r free_row (ap (is_of s) e ∙ later_source s row y p.0) ∙ h.others ∙ sym (length-set rows j r);
     }
 
 full_entered : (s : Source) (rows : List Row) (y : FlowEntry) → Full s rows → Full s (entered rows y).rows
@@ -123,7 +119,7 @@ unfolding entered
 full_entered s rows y h = go (ltb (first_row (is_of (source_of y)) rows) (length rows)) refl
   where
     go : (a : Bool) → ltb (first_row (is_of (source_of y)) rows) (length rows) ≡ a → Full s (entered rows y).rows
-    go true f = rw (f, f) (full_set s rows (first_row (is_of (source_of y)) rows) y h (first_passes (is_of (source_of y)) rows (ltb-true _ _ f)))
+    go true f = rw (f, f) (full_set s rows (first_row (is_of (source_of y)) rows) y h (passes_at_first (is_of (source_of y)) rows free_row (ltb-true _ _ f)))
     go false f =
         let used = h.used in
         let past : length rows ≤ first_row is_free rows = omega arith in
@@ -173,7 +169,7 @@ module _ (rows : List Row) (before : List FlowEntry) (x : FlowEntry) (behind : L
   opens_inside i l =
       let then : List Row = table_after rows before in
       let next : List Row = set then i (opened x) in
-      let e : entered then x ≡ record { answer = Entered; rows = next } = opens_row then x none i l in
+      let e : entered then x ≡ record { answer = Ok tt; rows = next } = opens_row then x none i l in
       let low : Lowest (source_of x) next i = row_lowest then x none i l in
       let g = totals_grow (source_of x) behind next i low in
       let row : get_or next i free_row ≡ opened x = get_or-set_same then i (opened x) free_row l.inside in
@@ -199,7 +195,7 @@ module _ (rows : List Row) (before : List FlowEntry) (x : FlowEntry) (behind : L
 
   refused_inside : AllOthers (table_after rows before) x → RefusedInside rows before x behind
   refused_inside h =
-      let full : (entered (table_after rows before) x).answer ≡ TableFull = (full_exactly (table_after rows before) x).1 h in
+      let full : (entered (table_after rows before) x).answer ≡ Err TableFull = (full_exactly (table_after rows before) x).1 h in
       record {
         answer = full;
         stays =

@@ -1,29 +1,22 @@
 -- What a run of samples does to the totals of a source, whatever the table, the other sources and the refused samples are. Assumes nothing.
-use Rattle.std.proofs.Common.{◌≡◌, ℕ, zero, suc, ◌+◌, ◌-◌, ◌%◌, ◌^◌, ◌<◌, ◌≤◌, Bool, true, false, cond, not, ◌&&◌, eqb, ltb, leb, ◌≢◌, List, [], ◌∷◌, length, get_or, set, sym, refl, ap, ◌∙◌, true≢false, add-zero, arith, length-set, get_or-set_other, get_or-set_same, ltb-true, le-ltb, lt-ltb, eqb-true, leb-false, leb-true}
+use Rattle.std.proofs.Common.{◌≡◌, ℕ, zero, suc, ◌+◌, ◌-◌, ◌%◌, ◌^◌, ◌<◌, ◌≤◌, Bool, true, false, cond, not, ◌&&◌, eqb, ltb, leb, ◌≢◌, Ok, Err, List, [], ◌∷◌, length, get_or, set, sym, refl, ap, ◌∙◌, true≢false, add-zero, arith, length-set, get_or-set_other, get_or-set_same, ltb-true, le-ltb, lt-ltb, eqb-true, leb-false, leb-true}
 use borrow.Author.Tests.{eqb-false}
+use Rattle.std.proofs.lemmas.List.Sums.{passes_at_first}
+use Rattle.std.proofs.lemmas.List.Folds.{position_or_len-set}
 use Rattle.xdr.proofs.Tests.{and_parts}
 use Rattle.ledger.specs.declared.FlowEntry.{FlowEntry}
 use Rattle.ledger.specs.declared.Row.{Row}
-use Rattle.ledger.specs.declared.EntryAnswer.TheVariants.{Entered, Repeated, Backward}
-use Rattle.ledger.specs.declared.RowEntered.{RowEntered}
+use Rattle.ledger.specs.declared.EntryRefusal.TheVariants.{Repeated, Backward}
+use Rattle.ledger.specs.Ledger.{RowEntered}
 use Rattle.ledger.specs.Ledger.{Source, same, source_of, row_source, same_source, difference, sequence_step, answered, advanced, later, updated, is_of, is_free, first_row, free_row, entered}
 use Rattle.ledger.specs.Runs.{accepts, accepted_later, lost_sum, pool_sum, Lowest, Grown}
 use Rattle.ledger.proofs.Updates.{opens, of_source}
 use Rattle.ledger.proofs.Sameness.{same_either, same_back}
-use Rattle.ledger.proofs.Tables.{first_passes}
 
 -- ---- the lowest row that passes a test
 
--- another row with the same answer to the test moves nothing
-pub first_set : (p : Row → Bool) (rows : List Row) (j : ℕ) (r : Row) → p r ≡ p (get_or rows j free_row) → first_row p (set rows j r) ≡ first_row p rows
-unfolding first_row
-first_set p [] j r e = refl
-first_set p (row ∷ rows) zero r e = rw e
-first_set p (row ∷ rows) (suc j) r e = rw (first_set p rows j r e)
-
 -- tests that agree have the same lowest row
 first_same : (p q : Row → Bool) → ((r : Row) → p r ≡ q r) → (rows : List Row) → first_row p rows ≡ first_row q rows
-unfolding first_row
 first_same p q e [] = refl
 first_same p q e (row ∷ rows) = rw (e row, first_same p q e rows)
 
@@ -46,7 +39,7 @@ later_row : (row : Row) (x : FlowEntry) → (later row x).row ≡ cond (taken (s
 later_row row x = go (sequence_step row x) (eqb (sequence_step row x) 0) (leb (2 ^ 31) (sequence_step row x)) refl refl
   where
     go : (n : ℕ) (a b : Bool) → eqb n 0 ≡ a → leb (2 ^ 31) n ≡ b
-        → (cond a (answered Repeated row) (cond b (answered Backward row) (answered Entered (advanced row x)))).row ≡ cond (taken n) (advanced row x) row
+        → (cond a (answered (Err Repeated) row) (cond b (answered (Err Backward) row) (answered (Ok tt) (advanced row x)))).row ≡ cond (taken n) (advanced row x) row
     go n true b e f = let z : n ≤ 0 = let y = eqb-true n 0 e in omega arith in rw (le-ltb 0 n z)
     go n false true e f =
         let z : 0 < n = let y = nonzero n (eqb-false n 0 e) in y in
@@ -99,14 +92,14 @@ pub record Stepped (s : Source) (rows : List Row) (i : ℕ) (x : FlowEntry) : Ty
 
 -- the lowest row of a source after another row, or that row, took another that belongs to the source exactly where the old one did
 lowest_set : (s : Source) (rows : List Row) (i j : ℕ) (r : Row) → Lowest s rows i → is_of s r ≡ is_of s (get_or rows j free_row) → Lowest s (set rows j r) i
-lowest_set s rows i j r l e = record { first = first_set (is_of s) rows j r e ∙ l.first; inside = rw (length-set rows j r) l.inside }
+lowest_set s rows i j r l e = record { first = position_or_len-set (is_of s) rows j r free_row e ∙ l.first; inside = rw (length-set rows j r) l.inside }
 
 module _ (s : Source) (rows : List Row) (i : ℕ) (l : Lowest s rows i) (x : FlowEntry) where
   passes : is_of s (get_or rows i free_row) ≡ true
   passes =
       let e = l.first in
       let h : first_row (is_of s) rows < length rows = rw e l.inside in
-      rw e at (first_passes (is_of s) rows h)
+      rw e at (passes_at_first (is_of s) rows free_row h)
 
   -- a sample of the source
   step_own : same s (source_of x) ≡ true → Stepped s rows i x
@@ -143,11 +136,11 @@ module _ (s : Source) (rows : List Row) (i : ℕ) (l : Lowest s rows i) (x : Flo
       go true f b g =
           let j = first_row (is_of (source_of x)) rows in
           let r = (updated (get_or rows j free_row) x).row in
-          step_elsewhere e j r (own_other s x e (get_or rows j free_row) (first_passes (is_of (source_of x)) rows (ltb-true _ _ f))) (rw (f, f))
+          step_elsewhere e j r (own_other s x e (get_or rows j free_row) (passes_at_first (is_of (source_of x)) rows free_row (ltb-true _ _ f))) (rw (f, f))
       go false f true g =
           let j = first_row is_free rows in
           let r = (updated (get_or rows j free_row) x).row in
-          step_elsewhere e j r (free_other s x e (get_or rows j free_row) (first_passes is_free rows (ltb-true _ _ g))) (rw (f, g))
+          step_elsewhere e j r (free_other s x e (get_or rows j free_row) (passes_at_first is_free rows free_row (ltb-true _ _ g))) (rw (f, g))
       go false f false g = record { lowest = rw (f, g) l; row_is = rw (f, g, e) }
 
   pub stepped : Stepped s rows i x

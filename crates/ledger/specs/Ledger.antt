@@ -1,20 +1,34 @@
 -- The ledger of lost flow samples (document 01, "Ledger").
-use Rattle.std.specs.Prelude.{ℕ, suc, ◌+◌, ◌-◌, ◌%◌, ◌^◌, Bool, true, false, cond, not, ◌&&◌, ◌||◌, List, [], ◌∷◌, length, ◌==◌, nat_le, nat_lt, slice_index_or, slice_set}
+use Rattle.std.specs.Prelude.{ℕ, ◌+◌, ◌-◌, ◌%◌, ◌^◌, Bool, true, false, cond, not, ◌&&◌, ◌||◌, Result, Ok, Err, List, length, ◌==◌, nat_le, nat_lt, slice_index_or, slice_set}
+use Rattle.std.specs.List.{position_or_len}
+use Rattle.std.specs.Result.{result_and}
 use Rattle.fields.specs.declared.address.Address.{Address}
 use Rattle.ledger.specs.declared.FlowEntry.{FlowEntry}
 use Rattle.ledger.specs.declared.Row.{Row}
-use Rattle.ledger.specs.declared.EntryAnswer.{EntryAnswer}
-use Rattle.ledger.specs.declared.EntryAnswer.TheVariants.{Entered, TableFull, Repeated, Backward, OtherSource}
-use Rattle.ledger.specs.declared.RowEntered.{RowEntered}
-use Rattle.ledger.specs.declared.TableEntered.{TableEntered}
+use Rattle.ledger.specs.declared.EntryRefusal.{EntryRefusal}
+use Rattle.ledger.specs.declared.EntryRefusal.TheVariants.{TableFull, Repeated, Backward, OtherSource}
+
+-- an answer: the sample is entered, or why not
+abbrev pub EntryAnswer : Type 0
+EntryAnswer = Result (Unit {0}) EntryRefusal
+
+-- an answer, with the row afterwards
+pub record RowEntered : Type 0 where
+  pub answer : EntryAnswer
+  pub row : Row
+
+-- an answer, with the table afterwards
+pub record TableEntered : Type 0 where
+  pub answer : EntryAnswer
+  pub rows : List Row
 
 -- the number of each answer; 0 where the sample is entered
 abbrev pub entry_number : EntryAnswer → ℕ
-entry_number Entered = 0
-entry_number TableFull = 40
-entry_number Repeated = 41
-entry_number Backward = 42
-entry_number OtherSource = 43
+entry_number (Ok _) = 0
+entry_number (Err TableFull) = 40
+entry_number (Err Repeated) = 41
+entry_number (Err Backward) = 42
+entry_number (Err OtherSource) = 43
 
 -- ---- sources
 
@@ -82,16 +96,20 @@ advanced row x =
 abbrev pub answered : EntryAnswer → Row → RowEntered
 answered answer row = record { answer = answer; row = row }
 
+-- the row afterwards where the sample is entered, else the refusal
+abbrev pub row_or_refusal : RowEntered → Result Row EntryRefusal
+row_or_refusal e = result_and e.answer (Ok e.row)
+
 -- a later sample of the row's source
 abbrev pub later : Row → FlowEntry → RowEntered
 later row x =
-    cond (sequence_step row x == 0) (answered Repeated row)
-    (cond (nat_le (2 ^ 31) (sequence_step row x)) (answered Backward row)
-    (answered Entered (advanced row x)))
+    cond (sequence_step row x == 0) (answered (Err Repeated) row)
+    (cond (nat_le (2 ^ 31) (sequence_step row x)) (answered (Err Backward) row)
+    (answered (Ok tt) (advanced row x)))
 
 -- one lent row: a free row opens, a row of another source is refused
 unfoldable pub updated : Row → FlowEntry → RowEntered
-updated row x = cond row.used (cond (same_source row x) (later row x) (answered OtherSource row)) (answered Entered (opened x))
+updated row x = cond row.used (cond (same_source row x) (later row x) (answered (Err OtherSource) row)) (answered (Ok tt) (opened x))
 
 -- ---- the table
 
@@ -102,9 +120,8 @@ abbrev pub is_free : Row → Bool
 is_free row = not row.used
 
 -- the lowest row that passes a test, or the number of rows
-unfoldable pub first_row : (Row → Bool) → List Row → ℕ
-first_row p [] = 0
-first_row p (row ∷ rows) = cond (p row) 0 (suc (first_row p rows))
+abbrev pub first_row : (Row → Bool) → List Row → ℕ
+first_row p rows = position_or_len p rows
 
 -- the row of a sample: its source's lowest, else the lowest free one, else none
 abbrev pub row_for : FlowEntry → List Row → ℕ
@@ -131,4 +148,4 @@ with_row rows i e = record { answer = e.answer; rows = slice_set rows i e.row }
 unfoldable pub entered : List Row → FlowEntry → TableEntered
 entered rows x =
     cond (nat_lt (row_for x rows) (length rows)) (with_row rows (row_for x rows) (updated (slice_index_or rows (row_for x rows) free_row) x))
-    (record { answer = TableFull; rows = rows })
+    (record { answer = Err TableFull; rows = rows })

@@ -1,8 +1,8 @@
 -- A run of samples entered one behind the other, and what it adds to the totals of a source (document 01, "Ledger").
-use Rattle.std.specs.Prelude.{◌≡◌, ℕ, ◌+◌, ◌-◌, ◌%◌, ◌^◌, ◌<◌, Bool, true, false, cond, ◌&&◌, ◌⊎◌, List, [], ◌∷◌, ◌++◌, length, get_or, nat_lt, slice_index_or}
+use Rattle.std.specs.Prelude.{◌≡◌, ℕ, ◌+◌, ◌-◌, ◌%◌, ◌^◌, ◌<◌, Bool, true, false, cond, ◌&&◌, ◌⊎◌, Ok, Err, List, [], ◌∷◌, ◌++◌, length, get_or, nat_lt, slice_index_or}
 use Rattle.ledger.specs.declared.FlowEntry.{FlowEntry}
 use Rattle.ledger.specs.declared.Row.{Row}
-use Rattle.ledger.specs.declared.EntryAnswer.TheVariants.{Entered, TableFull}
+use Rattle.ledger.specs.declared.EntryRefusal.TheVariants.{TableFull}
 use Rattle.ledger.specs.Ledger.{Source, same, source_of, row_source, difference, opened, is_of, is_free, first_row, free_row, entered}
 
 -- the table behind a run of samples
@@ -67,7 +67,7 @@ pub record LowestFree (rows : List Row) (i : ℕ) : Type 0 where
 -- what a run leaves of a source that opens inside it, with its first sample x behind other samples: x is entered in row i, with its sequence number and
 -- pool and totals of 0; that row is then the source's lowest, and its totals are the sums over the source's accepted later samples, modulo 2 ^ 64
 pub record OpensInside (rows : List Row) (before : List FlowEntry) (x : FlowEntry) (behind : List FlowEntry) (i : ℕ) : Type 0 where
-  pub answer : (entered (table_after rows before) x).answer ≡ Entered
+  pub answer : (entered (table_after rows before) x).answer ≡ Ok tt
   pub opens : get_or (entered (table_after rows before) x).rows i free_row ≡ opened x
   pub lowest : Lowest (source_of x) (table_after rows (before ++ (x ∷ behind))) i
   pub lost : (get_or (table_after rows (before ++ (x ∷ behind))) i free_row).lost_total
@@ -77,7 +77,7 @@ pub record OpensInside (rows : List Row) (before : List FlowEntry) (x : FlowEntr
 
 -- a sample that a full table refuses: the run goes on as without it, and every row still belongs to another source behind it, for rows are not retired
 pub record RefusedInside (rows : List Row) (before : List FlowEntry) (x : FlowEntry) (behind : List FlowEntry) : Type 0 where
-  pub answer : (entered (table_after rows before) x).answer ≡ TableFull
+  pub answer : (entered (table_after rows before) x).answer ≡ Err TableFull
   pub stays : table_after rows (before ++ (x ∷ behind)) ≡ table_after rows (before ++ behind)
   pub full : AllOthers (table_after rows (before ++ (x ∷ behind))) x
 

@@ -1,8 +1,8 @@
 #![tactic(auto)]
 // The ledger of lost flow samples (document 01, "Ledger"): what sequence numbers and sample pools say of each source, in a table of 64 rows.
-ghost use Rattle.std.specs.Prelude.{◌≡◌};
-ghost use Rattle.ledger.specs.Ledger.{entry_number, free_row, same_address, source_of, same_source, answered, opened, later, updated, first_row, is_of, is_free, row_for, entered};
-ghost use Rattle.ledger.specs.declared.EntryAnswer.TheVariants.{Entered};
+ghost use Rattle.std.specs.Prelude.{◌≡◌, position};
+ghost use Rattle.std.specs.Option.{option_or};
+ghost use Rattle.ledger.specs.Ledger.{entry_number, free_row, same_address, source_of, same_source, row_or_refusal, opened, later, updated, is_of, is_free, entered};
 
 use fields::address::{Address, Quad};
 use reader::sample::FlowWords;
@@ -14,7 +14,8 @@ pub struct FlowEntry {
     pub words: FlowWords,
 }
 
-// A row: whether it is in use, its source, the numbers that the source's last sample had, and the totals.
+// A row: whether it is in use, its source, the numbers that the source's last sample had, and the totals. A free row has values too, which stay as they are
+// until it opens, so `used` stands beside them.
 #[derive(Clone, Copy)]
 pub struct Row {
     pub used: bool,
@@ -26,9 +27,12 @@ pub struct Row {
     pub pool_total: u64,
 }
 
-#[derive(Clone, Copy)]
-pub enum EntryAnswer {
-    Entered,
+// The rows of a table.
+pub const ROWS: usize = 64;
+
+// Why a sample is not entered.
+#[derive(Clone, Copy, PartialEq, Eq)]
+pub enum EntryRefusal {
     // every row belongs to another source
     TableFull,
     // the sequence number is the one kept
@@ -40,15 +44,15 @@ pub enum EntryAnswer {
 }
 
 // Document 01's number of an answer; 0 where the sample is entered.
-pub fn answer_number(answer: EntryAnswer) -> u32
+pub fn answer_number(answer: Result<(), EntryRefusal>) -> u32
     ensures { result ≡ entry_number answer }
 {
     match answer {
-        EntryAnswer::Entered => 0,
-        EntryAnswer::TableFull => 40,
-        EntryAnswer::Repeated => 41,
-        EntryAnswer::Backward => 42,
-        EntryAnswer::OtherSource => 43,
+        Ok(()) => 0,
+        Err(EntryRefusal::TableFull) => 40,
+        Err(EntryRefusal::Repeated) => 41,
+        Err(EntryRefusal::Backward) => 42,
+        Err(EntryRefusal::OtherSource) => 43,
     }
 }
 
@@ -82,210 +86,113 @@ fn same_address(x: Address, y: Address) -> bool
 {
     let p = x.octets;
     let q = y.octets;
-    if x.kind != y.kind {
-        return false;
-    }
-    if p.a != q.a {
-        return false;
-    }
-    if x.kind == 1 {
-        return true;
-    }
-    if p.b != q.b {
-        return false;
-    }
-    if p.c != q.c {
-        return false;
-    }
-    p.d == q.d
+    x.kind == y.kind && p.a == q.a && (x.kind == 1 || p.b == q.b && p.c == q.c && p.d == q.d)
 }
 
 // Whether a sample is of a row's source.
 fn same_source(row: Row, x: FlowEntry) -> bool
     ensures { result ≡ same_source row x }
 {
-    let words = x.words;
-    let kept = row.agent;
-    let agent = x.agent;
-    if row.source_id != words.source_id {
-        return false;
-    }
-    same_address(kept, agent)
-}
-
-// An answer, with the row afterwards.
-#[derive(Clone, Copy)]
-pub struct RowEntered {
-    pub answer: EntryAnswer,
-    pub row: Row,
-}
-
-// A row that a new source opens.
-fn open(x: FlowEntry) -> RowEntered
-    ensures { result ≡ answered Entered (opened x) }
-{
-    let words = x.words;
-    let agent = x.agent;
-    let answer = EntryAnswer::Entered;
-    RowEntered {
-        answer,
-        row: Row {
-            used: true,
-            agent,
-            source_id: words.source_id,
-            sequence_number: words.sequence_number,
-            sample_pool: words.sample_pool,
-            lost_total: 0,
-            pool_total: 0,
-        },
-    }
-}
-
-// A later sample of a row's source.
-fn go_on(row: Row, x: FlowEntry) -> RowEntered
-    ensures { result ≡ later row x }
-{
-    let words = x.words;
-    let step = std::num::wrapping_sub_u32(words.sequence_number, row.sequence_number);
-    if step == 0 {
-        let answer = EntryAnswer::Repeated;
-        return RowEntered { answer, row };
-    }
-    if 2147483648 <= step {
-        let answer = EntryAnswer::Backward;
-        return RowEntered { answer, row };
-    }
-    let more = std::num::wrapping_sub_u32(words.sample_pool, row.sample_pool);
-    let agent = row.agent;
-    let answer = EntryAnswer::Entered;
-    RowEntered {
-        answer,
-        row: Row {
-            used: true,
-            agent,
-            source_id: row.source_id,
-            sequence_number: words.sequence_number,
-            sample_pool: words.sample_pool,
-            lost_total: std::num::wrapping_add_u64(row.lost_total, (step - 1) as u64),
-            pool_total: std::num::wrapping_add_u64(row.pool_total, more as u64),
-        },
-    }
-}
-
-// A sample entered in one row, by value.
-pub fn update(row: Row, x: FlowEntry) -> RowEntered
-    ensures { result ≡ updated row x }
-{
-    if row.used {
-        if same_source(row, x) {
-            return go_on(row, x);
-        }
-        let answer = EntryAnswer::OtherSource;
-        return RowEntered { answer, row };
-    }
-    open(x)
-}
-
-// A sample entered in a row that the caller lends: the row is taken apart, brought up to date by value, and its parts are stored back.
-pub fn update_row(row: &mut Row, x: FlowEntry) -> EntryAnswer
-    ensures { (result ≡ (updated row.old x).answer) × (row.new ≡ (updated row.old x).row) }
-{
-    let kept = Row {
-        used: row.used,
-        agent: row.agent,
-        source_id: row.source_id,
-        sequence_number: row.sequence_number,
-        sample_pool: row.sample_pool,
-        lost_total: row.lost_total,
-        pool_total: row.pool_total,
-    };
-    let e = update(kept, x);
-    row.used = e.row.used;
-    row.agent = e.row.agent;
-    row.source_id = e.row.source_id;
-    row.sequence_number = e.row.sequence_number;
-    row.sample_pool = e.row.sample_pool;
-    row.lost_total = e.row.lost_total;
-    row.pool_total = e.row.pool_total;
-    e.answer
-}
-
-// The source's lowest row, or 64.
-fn own_row(rows: [Row; 64], x: FlowEntry) -> usize
-    ensures { result ≡ first_row (is_of (source_of x)) rows }
-{
-    let mut i = 0usize;
-    while i < 64 {
-        let row = rows[i];
-        if is_of(row, x) {
-            return i;
-        }
-        i += 1;
-    }
-    i
-}
-
-// The lowest free row, or 64.
-fn first_free(rows: [Row; 64]) -> usize
-    ensures { result ≡ first_row is_free rows }
-{
-    let mut i = 0;
-    while i < 64 {
-        let row = rows[i];
-        if row.used {
-            i += 1;
-        } else {
-            return i;
-        }
-    }
-    i
+    row.source_id == x.words.source_id && same_address(row.agent, x.agent)
 }
 
 // Whether a row is in use for a sample's source.
 pub fn is_of(row: Row, x: FlowEntry) -> bool
     ensures { result ≡ is_of (source_of x) row }
 {
-    if row.used {
-        return same_source(row, x);
-    }
-    false
+    row.used && same_source(row, x)
 }
 
-// The row that a sample goes to, or 64.
-fn row_for(rows: [Row; 64], x: FlowEntry) -> usize
-    ensures { result ≡ row_for x rows }
+// The row that a new source opens.
+fn open(x: FlowEntry) -> Row
+    ensures { result ≡ opened x }
 {
-    let own = own_row(rows, x);
-    if own < 64 {
-        return own;
+    let words = x.words;
+    Row {
+        used: true,
+        agent: x.agent,
+        source_id: words.source_id,
+        sequence_number: words.sequence_number,
+        sample_pool: words.sample_pool,
+        lost_total: 0,
+        pool_total: 0,
     }
-    first_free(rows)
 }
 
-// An answer, with the table afterwards.
-#[derive(Clone, Copy)]
-pub struct TableEntered {
-    pub answer: EntryAnswer,
-    pub rows: [Row; 64],
-}
-
-// A sample entered in a table: one row is brought up to date, the others stay.
-pub fn enter(rows: [Row; 64], x: FlowEntry) -> TableEntered
-    ensures { result ≡ entered rows x }
+// The row behind a later sample of its source.
+fn go_on(row: Row, x: FlowEntry) -> Result<Row, EntryRefusal>
+    ensures { result ≡ row_or_refusal (later row x) }
 {
-    let i = row_for(rows, x);
-    if 64 <= i {
-        let answer = EntryAnswer::TableFull;
-        return TableEntered { answer, rows };
+    let words = x.words;
+    let step = words.sequence_number.wrapping_sub(row.sequence_number);
+    if step == 0 {
+        return Err(EntryRefusal::Repeated);
     }
-    let row = rows[i];
-    let e = update(row, x);
-    let answer = e.answer;
-    let changed = e.row;
-    let mut after = rows;
-    after[i] = changed;
-    TableEntered {
-        answer,
-        rows: after,
+    if 2147483648 <= step {
+        return Err(EntryRefusal::Backward);
     }
+    let more = words.sample_pool.wrapping_sub(row.sample_pool);
+    Ok(Row {
+        used: true,
+        agent: row.agent,
+        source_id: row.source_id,
+        sequence_number: words.sequence_number,
+        sample_pool: words.sample_pool,
+        lost_total: row.lost_total.wrapping_add((step - 1) as u64),
+        pool_total: row.pool_total.wrapping_add(more as u64),
+    })
+}
+
+// A sample entered in one row, by value: the row afterwards.
+pub fn update(row: Row, x: FlowEntry) -> Result<Row, EntryRefusal>
+    ensures { result ≡ row_or_refusal (updated row x) }
+{
+    if !row.used {
+        return Ok(open(x));
+    }
+    if !same_source(row, x) {
+        return Err(EntryRefusal::OtherSource);
+    }
+    go_on(row, x)
+}
+
+// A sample entered in a row that the caller lends; a refusal leaves the row as it was.
+pub fn update_row(row: &mut Row, x: FlowEntry) -> Result<(), EntryRefusal>
+    ensures answer { result ≡ (updated row.old x).answer }
+    ensures left { row.new ≡ (updated row.old x).row }
+{
+    *row = update(*row, x)?;
+    Ok(())
+}
+
+// The source's lowest row.
+fn own_row(rows: &[Row; ROWS], x: FlowEntry) -> Option<usize>
+    ensures { result ≡ position (is_of (source_of x)) rows.now }
+{
+    rows.iter().position(|row| is_of(*row, x))
+}
+
+// The lowest free row.
+fn first_free(rows: &[Row; ROWS]) -> Option<usize>
+    ensures { result ≡ position is_free rows.now }
+{
+    rows.iter().position(|row| !row.used)
+}
+
+// The row that a sample goes to: its source's lowest, else the lowest free one.
+fn row_for(rows: &[Row; ROWS], x: FlowEntry) -> Option<usize>
+    ensures { result ≡ option_or (position (is_of (source_of x)) rows.now) (position is_free rows.now) }
+{
+    own_row(rows, x).or_else(|| first_free(rows))
+}
+
+// A sample entered in a table: one row is brought up to date, the others stay; a refusal leaves every row as it was.
+pub fn enter(rows: &mut [Row; ROWS], x: FlowEntry) -> Result<(), EntryRefusal>
+    ensures answer { result ≡ (entered rows.old x).answer }
+    ensures left { rows.new ≡ (entered rows.old x).rows }
+{
+    let Some(i) = row_for(rows, x) else {
+        return Err(EntryRefusal::TableFull);
+    };
+    update_row(&mut rows[i], x)
 }

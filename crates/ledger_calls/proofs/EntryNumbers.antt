@@ -11,13 +11,15 @@ use borrow.Author.Tests.{eqb-true, eqb-false, leb-true, leb-false, ltb-true, ltb
 use Rattle.xdr.specs.Writes.{Afterwards, afterwards}
 use Rattle.ledger.specs.declared.FlowEntry.{FlowEntry}
 use Rattle.ledger.specs.declared.Row.{Row}
-use Rattle.ledger.specs.declared.EntryAnswer.{EntryAnswer}
-use Rattle.ledger.specs.declared.EntryAnswer.TheVariants.{Entered, TableFull, Repeated, Backward, OtherSource}
-use Rattle.ledger.specs.declared.RowEntered.{RowEntered}
-use Rattle.ledger.specs.declared.TableEntered.{TableEntered}
+use Rattle.ledger.specs.Ledger.{EntryAnswer}
+use Rattle.ledger.specs.declared.EntryRefusal.TheVariants.{TableFull, Repeated, Backward, OtherSource}
+use Rattle.std.proofs.Common.{Ok, Err}
+use Rattle.ledger.specs.Ledger.{RowEntered}
+use Rattle.ledger.specs.Ledger.{TableEntered}
 use Rattle.ledger.specs.Ledger.{entry_number, same, source_of, row_source, same_source, sequence_step, answered, opened, advanced, updated, is_of, is_free, first_row, row_for, free_row, entered}
 use Rattle.ledger.specs.Runs.{AllOthers, NoRow}
-use Rattle.ledger.proofs.Tables.{first_passes, first_none, none_first}
+use Rattle.std.proofs.lemmas.List.Sums.{passes_at_first}
+use Rattle.ledger.proofs.Tables.{first_none, none_first}
 use Rattle.ledger.proofs.Answers.{by_row, table_kept, full_exactly}
 use Rattle.ledger.proofs.Opening.{no_row_free}
 use Rattle.ledger_calls.specs.EntryNumbers.{LentRowTold, HasRow, own_step, EntryTold, NumbersTold}
@@ -46,7 +48,7 @@ row_case row x = go row.used (same (row_source row) (source_of x)) (eqb (sequenc
   where
     go : (a b c e : Bool) → row.used ≡ a → same (row_source row) (source_of x) ≡ b → eqb (sequence_step row x) 0 ≡ c → leb (2 ^ 31) (sequence_step row x) ≡ e
         → CaseOf row x
-        (cond a (cond b (cond c (answered Repeated row) (cond e (answered Backward row) (answered Entered (advanced row x)))) (answered OtherSource row)) (answered Entered (opened x)))
+        (cond a (cond b (cond c (answered (Err Repeated) row) (cond e (answered (Err Backward) row) (answered (Ok tt) (advanced row x)))) (answered (Err OtherSource) row)) (answered (Ok tt) (opened x)))
     go false b c e u s i j = opens refl (rw u) refl
     go true false c e u s i j = other refl (rw u) (rw (s, u)) refl
     go true true true e u s i j = repeats refl (rw (s, u)) (eqb-true _ _ i) refl
@@ -165,7 +167,7 @@ module _ (rows : List Row) (x : FlowEntry) where
       let inside : row_for x rows < length rows = rw at h in
       let answer : (entered rows x).answer ≡ (updated (get_or rows i free_row) x).answer =
       ap (λ (t : TableEntered). t.answer) (by_row rows x inside) ∙ ap (λ (k : ℕ). (updated (get_or rows k free_row) x).answer) at in
-      rw answer (go (entry_number (updated (get_or rows i free_row) x).answer) (first_passes (is_of (source_of x)) rows h) (row_case (get_or rows i free_row) x))
+      rw answer (go (entry_number (updated (get_or rows i free_row) x).answer) (passes_at_first (is_of (source_of x)) rows free_row h) (row_case (get_or rows i free_row) x))
     where
       go : (n : ℕ) {after : Row} → is_of (source_of x) (get_or rows (first_row (is_of (source_of x)) rows) free_row) ≡ true
           → RowCase (get_or rows (first_row (is_of (source_of x)) rows) free_row) x n after → TableCase rows x n
@@ -183,7 +185,7 @@ module _ (rows : List Row) (x : FlowEntry) where
       let inside : row_for x rows < length rows = rw at h in
       let answer : (entered rows x).answer ≡ (updated (get_or rows i free_row) x).answer =
       ap (λ (t : TableEntered). t.answer) (by_row rows x inside) ∙ ap (λ (k : ℕ). (updated (get_or rows k free_row) x).answer) at in
-      rw answer (go (entry_number (updated (get_or rows i free_row) x).answer) (first_passes is_free rows h) (row_case (get_or rows i free_row) x))
+      rw answer (go (entry_number (updated (get_or rows i free_row) x).answer) (passes_at_first is_free rows free_row h) (row_case (get_or rows i free_row) x))
     where
       go : (n : ℕ) {after : Row} → is_free (get_or rows (first_row is_free rows) free_row) ≡ true
           → RowCase (get_or rows (first_row is_free rows) free_row) x n after → TableCase rows x n
@@ -272,7 +274,7 @@ module _ (rows : List Row) (x : FlowEntry) where
   table_keeps : (entry_number (entered rows x).answer ≡ 0 → ⊥) → (entered rows x).rows ≡ rows
   table_keeps q = go (table_kept rows x)
     where
-      go : ((entered rows x).answer ≡ Entered) ⊎ ((entered rows x).rows ≡ rows) → (entered rows x).rows ≡ rows
+      go : ((entered rows x).answer ≡ Ok tt) ⊎ ((entered rows x).rows ≡ rows) → (entered rows x).rows ≡ rows
       go (inl e) = absurd (q (ap entry_number e))
       go (inr e) = e
 
@@ -295,19 +297,19 @@ entry_told rows x r e = rw e (entered_told rows x)
 -- ---- a table of numbers
 
 below : (a : EntryAnswer) → entry_number a < 99
-below Entered = omega arith
-below TableFull = omega arith
-below Repeated = omega arith
-below Backward = omega arith
-below OtherSource = omega arith
+below (Ok _) = omega arith
+below (Err TableFull) = omega arith
+below (Err Repeated) = omega arith
+below (Err Backward) = omega arith
+below (Err OtherSource) = omega arith
 
 -- where the number is not 0, no number is stored
 none_stored : (a : EntryAnswer) (i : ℕ) (row : Row) (ns : List ℕ) → (entry_number a ≡ 0 → ⊥) → numbers_after a i row ns ≡ ns
-none_stored Entered i row ns q = absurd (q refl)
-none_stored TableFull i row ns q = refl
-none_stored Repeated i row ns q = refl
-none_stored Backward i row ns q = refl
-none_stored OtherSource i row ns q = refl
+none_stored (Ok _) i row ns q = absurd (q refl)
+none_stored (Err TableFull) i row ns q = refl
+none_stored (Err Repeated) i row ns q = refl
+none_stored (Err Backward) i row ns q = refl
+none_stored (Err OtherSource) i row ns q = refl
 
 module _ (x : FlowEntry) (ns : List ℕ) where
   abbrev NumbersOf : Afterwards ℕ → Type 0

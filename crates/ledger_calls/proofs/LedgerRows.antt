@@ -12,9 +12,10 @@ use Rattle.xdr.specs.Writes.{stored, Afterwards, afterwards}
 use Rattle.ledger.proofs.Tables.{no_row, one_row}
 use Rattle.ledger.specs.declared.FlowEntry.{FlowEntry}
 use Rattle.ledger.specs.declared.Row.{Row}
-use Rattle.ledger.specs.declared.EntryAnswer.TheVariants.{Entered, TableFull, Repeated, Backward, OtherSource}
-use Rattle.ledger.specs.declared.RowEntered.{RowEntered}
-use Rattle.ledger.specs.declared.TableEntered.{TableEntered}
+use Rattle.ledger.specs.declared.EntryRefusal.TheVariants.{TableFull, Repeated, Backward, OtherSource}
+use Rattle.std.proofs.Common.{Ok, Err}
+use Rattle.ledger.specs.Ledger.{RowEntered}
+use Rattle.ledger.specs.Ledger.{TableEntered}
 use Rattle.ledger.specs.Ledger.{free_row, same_source, sequence_step, opened, advanced, answered, updated, row_for, with_row, entered}
 use Rattle.ledger_calls.specs.LedgerTable.{row_in, rows_in, row_numbers, numbers_after, entered_table, EntryWords, SampleWords}
 use Rattle.ledger_calls.proofs.LedgerTables.{rows_length, row_at, table_long}
@@ -125,8 +126,8 @@ module _ (ns : List ℕ) (x : FlowEntry) (w : SampleWords x) (long : 704 ≤ len
 
       after : Bool → Bool → Bool → Bool → RowEntered
       after a b c e =
-          cond a (cond b (cond c (answered Repeated row) (cond e (answered Backward row) (answered Entered (advanced row x)))) (answered OtherSource row))
-          (answered Entered (opened x))
+          cond a (cond b (cond c (answered (Err Repeated) row) (cond e (answered (Err Backward) row) (answered (Ok tt) (advanced row x)))) (answered (Err OtherSource) row))
+          (answered (Ok tt) (opened x))
 
       go : (a b c e : Bool) → rows_in 64 (numbers_after (after a b c e).answer i (after a b c e).row ns) ≡ set (rows_in 64 ns) i (after a b c e).row
       go false b c e = rows_set 64 i ns (opened x) h long w
@@ -141,29 +142,30 @@ array (afterwards r ns) = ns
 -- the table after an entry is the ledger's: its rows are those that the sample entered in its rows leaves
 pub rows_after : (x : FlowEntry) (ns after : List ℕ) (r : ℕ) → SampleWords x → 704 ≤ length ns → afterwards r after ≡ entered_table x ns
     → rows_in 64 after ≡ (entered (rows_in 64 ns) x).rows
-rows_after x ns after r w long e = go (ltb (row_for x (rows_in 64 ns)) 64) refl
+rows_after x ns after r w long e = go (ltb (row_for x (rows_in 64 ns)) (length (rows_in 64 ns))) refl
   where
     told_after : (t : TableEntered) → t ≡ entered (rows_in 64 ns) x
         → after ≡ numbers_after t.answer (row_for x (rows_in 64 ns)) (get_or t.rows (row_for x (rows_in 64 ns)) free_row) ns
-    told_after t q = ap array (e ∙ sym (table_long x ns (row_for x (rows_in 64 ns)) t long refl q))
+    told_after t q =
+        ap array (e ∙ sym (table_long x ns long))
+        ∙ ap (λ (s : TableEntered). numbers_after s.answer (row_for x (rows_in 64 ns)) (get_or s.rows (row_for x (rows_in 64 ns)) free_row) ns) (sym q)
 
-    full : 64 ≤ row_for x (rows_in 64 ns) → rows_in 64 after ≡ (entered (rows_in 64 ns) x).rows
+    full : length (rows_in 64 ns) ≤ row_for x (rows_in 64 ns) → rows_in 64 after ≡ (entered (rows_in 64 ns) x).rows
     full h =
-        let t : TableEntered = record { answer = TableFull; rows = rows_in 64 ns } in
-        let q : t ≡ entered (rows_in 64 ns) x = no_row (rows_in 64 ns) x (rows_length 64 ns) (row_for x (rows_in 64 ns)) refl h in
-        ap (rows_in 64) (told_after t q) ∙ ap (λ (s : TableEntered). s.rows) q
+        let q = sym (no_row (rows_in 64 ns) x h) in
+        ap (rows_in 64) (told_after (record { answer = Err TableFull; rows = rows_in 64 ns }) q) ∙ ap (λ (s : TableEntered). s.rows) q
 
-    one : row_for x (rows_in 64 ns) < 64 → rows_in 64 after ≡ (entered (rows_in 64 ns) x).rows
-    one h =
+    one : row_for x (rows_in 64 ns) < length (rows_in 64 ns) → rows_in 64 after ≡ (entered (rows_in 64 ns) x).rows
+    one inside =
         let i : ℕ = row_for x (rows_in 64 ns) in
+        let h : i < 64 = subst (λ (n : ℕ). i < n) (rows_length 64 ns) inside in
         let row : Row = get_or (rows_in 64 ns) i free_row in
         let u : RowEntered = updated row x in
         let t : TableEntered = with_row (rows_in 64 ns) i u in
-        let q : t ≡ entered (rows_in 64 ns) x = one_row (rows_in 64 ns) x (rows_length 64 ns) i refl h u refl in
-        let inside : i < length (rows_in 64 ns) = subst (λ (n : ℕ). i < n) (sym (rows_length 64 ns)) h in
+        let q : t ≡ entered (rows_in 64 ns) x = sym (one_row (rows_in 64 ns) x i (refl, inside)) in
         ap (rows_in 64) (told_after t q ∙ ap (λ (s : Row). numbers_after u.answer i s ns) (get_or-set_same (rows_in 64 ns) i u.row free_row inside))
         ∙ row_brought ns x w long i h row refl ∙ ap (λ (s : TableEntered). s.rows) q
 
-    go : (b : Bool) → ltb (row_for x (rows_in 64 ns)) 64 ≡ b → rows_in 64 after ≡ (entered (rows_in 64 ns) x).rows
-    go true q = one (ltb-true (row_for x (rows_in 64 ns)) 64 q)
-    go false q = full (ltb-false (row_for x (rows_in 64 ns)) 64 q)
+    go : (b : Bool) → ltb (row_for x (rows_in 64 ns)) (length (rows_in 64 ns)) ≡ b → rows_in 64 after ≡ (entered (rows_in 64 ns) x).rows
+    go true q = one (ltb-true (row_for x (rows_in 64 ns)) (length (rows_in 64 ns)) q)
+    go false q = full (ltb-false (row_for x (rows_in 64 ns)) (length (rows_in 64 ns)) q)

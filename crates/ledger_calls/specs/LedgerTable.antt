@@ -1,14 +1,10 @@
 -- The ledger's table for C and Rust: 64 rows of eleven numbers in a lent array.
-use Rattle.std.specs.Prelude.{ℕ, zero, suc, ◌*◌, ◌%◌, ◌^◌, ◌<◌, not, cond, List, [], ◌∷◌, length, get_or, drop, leb, eqb}
+use Rattle.std.specs.Prelude.{ℕ, zero, suc, ◌*◌, ◌%◌, ◌^◌, ◌<◌, not, cond, Ok, Err, List, [], ◌∷◌, length, get_or, drop, leb, eqb}
 use Rattle.xdr.specs.Writes.{stored, Afterwards, afterwards}
 use Rattle.fields.specs.declared.address.Address.{Address}
 use Rattle.ledger.specs.declared.FlowEntry.{FlowEntry}
 use Rattle.ledger.specs.declared.Row.{Row}
-use Rattle.ledger.specs.declared.EntryAnswer.{EntryAnswer}
-use Rattle.ledger.specs.declared.EntryAnswer.TheVariants.{Entered, TableFull, Repeated, Backward, OtherSource}
-use Rattle.ledger.specs.declared.RowEntered.{RowEntered}
-use Rattle.ledger.specs.declared.TableEntered.{TableEntered}
-use Rattle.ledger.specs.Ledger.{entry_number, free_row, row_for, entered}
+use Rattle.ledger.specs.Ledger.{EntryAnswer, RowEntered, TableEntered, entry_number, free_row, row_for, entered}
 use Rattle.numbers.specs.Addresses.{address_with}
 
 -- ---- rows as numbers
@@ -76,11 +72,8 @@ flow_entry agent source sequence pool =
 
 -- the numbers afterwards: where a sample is entered, the eleven of row i are stored, and every other stays; a refusal changes none
 abbrev pub numbers_after : EntryAnswer → ℕ → Row → List ℕ → List ℕ
-numbers_after Entered i row ns = stored ns (11 * i) (row_numbers row)
-numbers_after TableFull i row ns = ns
-numbers_after Repeated i row ns = ns
-numbers_after Backward i row ns = ns
-numbers_after OtherSource i row ns = ns
+numbers_after (Ok _) i row ns = stored ns (11 * i) (row_numbers row)
+numbers_after (Err _) i row ns = ns
 
 -- the number of the answer, and the numbers afterwards, of row i brought up to date
 abbrev pub row_told : RowEntered → ℕ → List ℕ → Afterwards ℕ

@@ -1,14 +1,15 @@
 #![tactic(auto)]
 // The ledger of lost flow samples as a function on numbers: its table is a lent array of 64 rows, each of eleven numbers. Crate export gives it to C and Rust.
-ghost use Rattle.std.specs.Prelude.{◌*◌, ◌%◌, ◌^◌, ◌≤◌, ◌<◌, ◌≡◌, cond, not, eqb, length, drop};
+ghost use Rattle.std.specs.Prelude.{◌+◌, ◌*◌, ◌%◌, ◌^◌, ◌≤◌, ◌<◌, ◌≡◌, length, drop, position};
+ghost use Rattle.std.specs.Option.{option_or};
 ghost use Rattle.xdr.specs.Writes.{afterwards};
-ghost use Rattle.ledger.specs.Ledger.{source_of, updated, is_of, is_free, first_row, row_for};
+ghost use Rattle.ledger.specs.Ledger.{source_of, updated, is_of, is_free, entry_number};
 ghost use Rattle.numbers.specs.Reports.{filled};
 ghost use Rattle.numbers.specs.Addresses.{address_with};
-ghost use Rattle.ledger_calls.specs.LedgerTable.{agent_in, row_in, rows_in, row_numbers, flow_entry, row_told, entered_table};
+ghost use Rattle.ledger_calls.specs.LedgerTable.{agent_in, row_in, rows_in, row_numbers, flow_entry, numbers_after, rows_told, entered_table};
 
 use fields::address::{Address, Quad};
-use ledger::{EntryAnswer, FlowEntry, Row};
+use ledger::{EntryRefusal, FlowEntry, ROWS, Row};
 use numbers::fill;
 use reader::sample::FlowWords;
 
@@ -16,21 +17,6 @@ fn word(x: u64) -> u32
     ensures { result ≡ x % 2 ^ 32 }
 {
     (x % 4294967296) as u32
-}
-
-fn is_used(x: u64) -> bool
-    ensures { result ≡ not (eqb x 0) }
-{
-    x != 0
-}
-
-fn used_number(used: bool) -> u64
-    ensures { result ≡ cond used 1 0 }
-{
-    if used {
-        return 1;
-    }
-    0
 }
 
 // The address that stands behind a row's first number.
@@ -55,7 +41,7 @@ fn row_in(ns: &[u64]) -> Row
     ensures { result ≡ row_in ns.now }
 {
     Row {
-        used: is_used(ns[0]),
+        used: ns[0] != 0,
         agent: agent_in(ns),
         source_id: word(ns[6]),
         sequence_number: word(ns[7]),
@@ -72,7 +58,7 @@ fn put_row(out: &mut [u64], row: Row)
     let agent = row.agent;
     let q = agent.octets;
     let numbers = [
-        used_number(row.used),
+        u64::from(row.used),
         agent.kind as u64,
         q.a as u64,
         q.b as u64,
@@ -87,47 +73,39 @@ fn put_row(out: &mut [u64], row: Row)
     fill(out, &numbers);
 }
 
-// The lowest row of a sample's source, or 64.
-fn own_row(table: &[u64], x: FlowEntry) -> usize
+// The lowest row of a sample's source.
+fn own_row(table: &[u64], x: FlowEntry) -> Option<usize>
     requires { 704 ≤ length table.now }
-    ensures { result ≡ first_row (is_of (source_of x)) (rows_in 64 table.now) }
+    ensures { result ≡ position (is_of (source_of x)) (rows_in 64 table.now) }
 {
-    let mut i = 0usize;
-    while i < 64 {
+    for i in 0..ROWS {
         let row = row_in(&table[11 * i..]);
         if ledger::is_of(row, x) {
-            return i;
+            return Some(i);
         }
-        i += 1;
     }
-    i
+    None
 }
 
-// The lowest free row, or 64.
-fn first_free(table: &[u64]) -> usize
+// The lowest free row.
+fn first_free(table: &[u64]) -> Option<usize>
     requires { 704 ≤ length table.now }
-    ensures { result ≡ first_row is_free (rows_in 64 table.now) }
+    ensures { result ≡ position is_free (rows_in 64 table.now) }
 {
-    let mut i = 0usize;
-    while i < 64 {
+    for i in 0..ROWS {
         if table[11 * i] == 0 {
-            return i;
+            return Some(i);
         }
-        i += 1;
     }
-    i
+    None
 }
 
-// The row that a sample goes to, or 64.
-fn row_for(table: &[u64], x: FlowEntry) -> usize
+// The row that a sample goes to: its source's lowest, else the lowest free one.
+fn row_for(table: &[u64], x: FlowEntry) -> Option<usize>
     requires { 704 ≤ length table.now }
-    ensures { result ≡ row_for x (rows_in 64 table.now) }
+    ensures { result ≡ option_or (position (is_of (source_of x)) (rows_in 64 table.now)) (position is_free (rows_in 64 table.now)) }
 {
-    let own = own_row(table, x);
-    if own < 64 {
-        return own;
-    }
-    first_free(table)
+    own_row(table, x).or_else(|| first_free(table))
 }
 
 // A flow sample for the ledger; the words of it that the ledger does not use are 0.
@@ -148,20 +126,26 @@ fn flow_entry(agent: Address, source_id: u32, sequence_number: u32, sample_pool:
     }
 }
 
-// Enters a sample in row i: the number of the answer; where the sample is entered, the row's numbers are stored.
-fn enter_row(table: &mut [u64], i: usize, x: FlowEntry) -> u32
+// Enters a sample in row i: where it is entered, the row's numbers are stored.
+fn enter_row(table: &mut [u64], i: usize, x: FlowEntry) -> Result<(), EntryRefusal>
     requires { (704 ≤ length table.old) × (i < 64) }
-    ensures { afterwards result table.new ≡ row_told (updated (row_in (drop (11 * i) table.old)) x) i table.old }
+    ensures answer { result ≡ (updated (row_in (drop (11 * i) table.old)) x).answer }
+    ensures left { table.new ≡ numbers_after result i (updated (row_in (drop (11 * i) table.old)) x).row table.old }
 {
-    let row = row_in(&table[11 * i..]);
-    let e = ledger::update(row, x);
-    let answer = e.answer;
-    let EntryAnswer::Entered = answer else {
-        return ledger::answer_number(answer);
+    let row = ledger::update(row_in(&table[11 * i..]), x)?;
+    put_row(&mut table[11 * i..], row);
+    Ok(())
+}
+
+// Enters a sample in the rows of a table.
+fn enter_table(table: &mut [u64], x: FlowEntry) -> Result<(), EntryRefusal>
+    requires { 704 ≤ length table.old }
+    ensures { afterwards (entry_number result) table.new ≡ rows_told (rows_in 64 table.old) x table.old }
+{
+    let Some(i) = row_for(table, x) else {
+        return Err(EntryRefusal::TableFull);
     };
-    let changed = e.row;
-    put_row(&mut table[11 * i..], changed);
-    0
+    enter_row(table, i, x)
 }
 
 // Enters a flow sample in a table: the agent's address by its type and the words a to d, the source id, the sequence number and the sample pool. The table is
@@ -192,9 +176,5 @@ pub fn enter(
         octets: Quad { a, b, c, d },
     };
     let x = flow_entry(agent, source_id, sequence_number, sample_pool);
-    let i = row_for(table, x);
-    if 64 <= i {
-        return 40;
-    }
-    enter_row(table, i, x)
+    ledger::answer_number(enter_table(table, x))
 }

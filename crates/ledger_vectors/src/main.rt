@@ -2,22 +2,12 @@
 // every value of the 64 rows where the table is asked for. The operations and the expected text come from the second program in conformance/.
 #![tactic(auto)]
 
-ghost use Rattle.std.specs.Prelude.{◌≡◌};
-ghost use Rattle.ledger.specs.Ledger.{updated};
-
 use fields::address::{Address, Quad};
-use ledger::{EntryAnswer, FlowEntry, Row, RowEntered};
+use ledger::{EntryRefusal, FlowEntry, ROWS, Row};
 use reader::sample::FlowWords;
 use std::io;
 use std::io::{Read, Write};
 use xdr::{HyperRead, WordRead};
-
-fn flag(b: bool) -> u64 {
-    if b {
-        return 1;
-    }
-    0
-}
 
 fn show_row<W: Write>(out: &mut W, i: usize, row: Row) -> io::Result<()> {
     vector_io::line(
@@ -25,7 +15,7 @@ fn show_row<W: Write>(out: &mut W, i: usize, row: Row) -> io::Result<()> {
         b"row",
         &[
             i as u64,
-            flag(row.used),
+            u64::from(row.used),
             row.agent.kind as u64,
             row.agent.octets.a as u64,
             row.agent.octets.b as u64,
@@ -40,16 +30,15 @@ fn show_row<W: Write>(out: &mut W, i: usize, row: Row) -> io::Result<()> {
     )
 }
 
-fn show_table<W: Write>(out: &mut W, rows: [Row; 64]) -> io::Result<()> {
-    for i in 0..64 {
-        let row = rows[i];
-        show_row(out, i, row)?;
+fn show_table<W: Write>(out: &mut W, rows: &[Row; ROWS]) -> io::Result<()> {
+    for (i, row) in rows.iter().enumerate() {
+        show_row(out, i, *row)?;
     }
     Ok(())
 }
 
-fn show_answer<W: Write>(out: &mut W, answer: EntryAnswer) -> io::Result<()> {
-    vector_io::line(out, b"answer", &[ledger::answer_number(answer) as u64])
+fn show_answer<W: Write>(out: &mut W, answer: Result<(), EntryRefusal>) -> io::Result<()> {
+    vector_io::line(out, b"answer", &[u64::from(ledger::answer_number(answer))])
 }
 
 // The word at a place of a record, which has all of its words.
@@ -112,70 +101,35 @@ fn sample_of(s: &[u8]) -> FlowEntry {
     }
 }
 
-// Lends a row of its own for a flow sample.
-fn lend(row: Row, x: FlowEntry) -> RowEntered
-    ensures { result ≡ updated row x }
-{
-    let mut kept = row;
-    let answer = ledger::update_row(&mut kept, x);
-    RowEntered { answer, row: kept }
-}
-
 // A table without sources.
-fn empty_table() -> [Row; 64] {
-    let row = ledger::free_row();
-    [row; 64]
+fn empty_table() -> [Row; ROWS] {
+    [ledger::free_row(); ROWS]
 }
 
-// The table with a row of any contents.
-fn set_row(rows: [Row; 64], s: &[u8]) -> [Row; 64] {
-    let i = word_at(s, 4) as usize;
-    if 64 <= i {
-        return rows;
-    }
-    let mut after = rows;
-    let row = row_of(s);
-    after[i] = row;
-    after
+// The row that an operation names, if there is such a row.
+fn row_named<'a>(rows: &'a mut [Row; ROWS], s: &[u8]) -> Option<&'a mut Row> {
+    rows.get_mut(word_at(s, 4) as usize)
 }
 
-// The table with a flow sample entered.
-fn enter<W: Write>(out: &mut W, rows: [Row; 64], s: &[u8]) -> io::Result<[Row; 64]> {
-    let e = ledger::enter(rows, sample_of(s));
-    let answer = e.answer;
-    show_answer(out, answer)?;
-    Ok(e.rows)
-}
-
-// The table with a flow sample entered in one row, which alone is lent.
-fn lend_row<W: Write>(out: &mut W, rows: [Row; 64], s: &[u8]) -> io::Result<[Row; 64]> {
-    let i = word_at(s, 4) as usize;
-    if 64 <= i {
-        return Ok(rows);
-    }
-    let row = rows[i];
-    let e = lend(row, sample_of(s));
-    let answer = e.answer;
-    show_answer(out, answer)?;
-    let changed = e.row;
-    let mut after = rows;
-    after[i] = changed;
-    Ok(after)
-}
-
-// The table behind an operation.
-fn operate<W: Write>(out: &mut W, rows: [Row; 64], s: &[u8]) -> io::Result<[Row; 64]> {
+// An operation on a table: emptied, a row of any contents set, a flow sample entered, a row alone lent for one, or every row shown.
+fn operate<W: Write>(out: &mut W, rows: &mut [Row; ROWS], s: &[u8]) -> io::Result<()> {
     match word_at(s, 0) {
-        0 => Ok(empty_table()),
-        1 => Ok(set_row(rows, s)),
-        2 => enter(out, rows, s),
-        3 => lend_row(out, rows, s),
-        4 => {
-            show_table(out, rows)?;
-            Ok(rows)
+        0 => *rows = empty_table(),
+        1 => {
+            if let Some(row) = row_named(rows, s) {
+                *row = row_of(s);
+            }
         }
-        _ => Ok(rows),
+        2 => show_answer(out, ledger::enter(rows, sample_of(s)))?,
+        3 => {
+            if let Some(row) = row_named(rows, s) {
+                show_answer(out, ledger::update_row(row, sample_of(s)))?;
+            }
+        }
+        4 => show_table(out, rows)?,
+        _ => {}
     }
+    Ok(())
 }
 
 fn main(rt: HostRuntime) -> io::Result<()> {
@@ -187,7 +141,7 @@ fn main(rt: HostRuntime) -> io::Result<()> {
         if input.read_exact(&mut record).is_err() {
             return Ok(());
         }
-        rows = operate(&mut out, rows, &record)?;
+        operate(&mut out, &mut rows, &record)?;
     }
     Ok(())
 }

@@ -15,11 +15,11 @@ use Rattle.xdr.specs.Writes.{stored, Afterwards, afterwards}
 use Rattle.reader.specs.declared.datagram.HeadRead.{HeadRead}
 use Rattle.reader.specs.declared.datagram.HeadRead.TheVariants.{Found, Refused}
 use Rattle.record_lines.specs.declared.Listed.{Listed}
-use Rattle.record_lines.specs.declared.Listed.TheVariants.{NoRoom}
 use Rattle.record_lines.specs.Lines.{write_line}
 use Rattle.record_lines.specs.Records.{record_lines, room_of, answer_to, list_record}
-use Rattle.listing.specs.declared.Frame.{Frame}
-use Rattle.listing.specs.declared.Frame.TheVariants.{Whole, Short, Wrong}
+use Rattle.listing.specs.Captures.{Frame}
+use Rattle.listing.specs.declared.FrameFault.TheVariants.{Short, Wrong}
+use Rattle.std.proofs.Common.{Ok, Err, Option, Some, None}
 use Rattle.listing.specs.declared.Stop.{Stop}
 use Rattle.listing.specs.declared.Stop.TheVariants.{GoesOn, NoRecord, Output, BadRecord}
 use Rattle.listing.specs.declared.State.{State}
@@ -116,12 +116,12 @@ samples_in (Found h) = h.samples.count
 samples_in (Refused why p) = 0
 
 module _ (d : List ℕ) (at n : ℕ) (s : List ℕ) where
-  abbrev RecordOf : Afterwards Listed → Type 0
+  abbrev RecordOf : Afterwards (Option Listed) → Type 0
   RecordOf (afterwards l e) = RecordTold d at n s (listed_report l) e
 
   -- an accepted datagram, or a refused one, where there is room
   listed : (a : HeadRead) → datagram_read s ≡ a → at + room_of (datagram_read s) ≤ length d
-      → RecordTold d at n s (listed_report (answer_to a (at + length (record_lines n s)))) (stored d at (record_lines n s))
+      → RecordTold d at n s (listed_report (Some (answer_to a (at + length (record_lines n s))))) (stored d at (record_lines n s))
   listed (Found h) f k =
       record {
         no_room = (λ q. absurd (omega arith), λ q. absurd (omega arith));
@@ -142,12 +142,12 @@ module _ (d : List ℕ) (at n : ℕ) (s : List ℕ) where
       }
 
   -- what `record_lines::list_record` answers and leaves, by its contract
-  pub record_told : (r : Listed) (e : List ℕ) → afterwards r e ≡ list_record d at n s → RecordTold d at n s (listed_report r) e
+  pub record_told : (r : Option Listed) (e : List ℕ) → afterwards r e ≡ list_record d at n s → RecordTold d at n s (listed_report r) e
   unfolding list_record
   record_told r e h = subst RecordOf (sym h) (go (leb (at + room_of (datagram_read s)) (length d)) refl)
     where
       go : (b : Bool) → leb (at + room_of (datagram_read s)) (length d) ≡ b
-          → RecordOf (cond b (afterwards (answer_to (datagram_read s) (at + length (record_lines n s))) (stored d at (record_lines n s))) (afterwards NoRoom d))
+          → RecordOf (cond b (afterwards (Some (answer_to (datagram_read s) (at + length (record_lines n s)))) (stored d at (record_lines n s))) (afterwards None d))
       go true k = listed (datagram_read s) refl (leb-true _ _ k)
       go false k =
           let over : length d < at + room_of (datagram_read s) = leb-false _ _ k in
@@ -177,7 +177,7 @@ frame_case s =
   where
     go : (p q r u v : Bool) → leb 4 (length s) ≡ p → eqb (get_or s 0 0) 115 ≡ q → eqb (get_or s 1 0) 70 ≡ r → ltb 65507 (length_in s) ≡ u
         → leb (4 + length_in s) (length s) ≡ v
-        → FrameCase s (frame_report (cond p (cond q (cond r (cond u Wrong (cond v (Whole (length_in s)) Short)) Wrong) Wrong) Short))
+        → FrameCase s (frame_report (cond p (cond q (cond r (cond u (Err Wrong) (cond v (Ok (length_in s)) (Err Short))) (Err Wrong)) (Err Wrong)) (Err Short)))
     go false q r u v a b c d e = none refl (leb-false _ _ a)
     go true false r u v a b c d e = unmarked refl (leb-true _ _ a) (λ m. eqb-false _ _ b m.0)
     go true true false u v a b c d e = unmarked refl (leb-true _ _ a) (λ m. eqb-false _ _ c m.1)

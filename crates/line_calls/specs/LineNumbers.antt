@@ -1,12 +1,12 @@
 -- The numbers that listing answers, each exactly where it holds, with the values beside it.
-use Rattle.std.specs.Prelude.{ℕ, ◌+◌, ◌≤◌, ◌<◌, ◌≡◌, ◌⊎◌, ◌↔◌, List, [], ◌∷◌, length, get_or, drop}
+use Rattle.std.specs.Prelude.{ℕ, ◌+◌, ◌≤◌, ◌<◌, ◌≡◌, ◌⊎◌, ◌↔◌, List, [], ◌∷◌, length, get_or, drop, Err}
 use Rattle.reader.specs.Datagrams.{datagram_read}
 use Rattle.xdr.specs.Writes.{stored}
 use Rattle.sflow.specs.declared.Refusal.{Refusal}
 use Rattle.reader.specs.declared.datagram.Head.{Head}
 use Rattle.reader.specs.declared.datagram.HeadRead.TheVariants.{Found, Refused}
 use Rattle.record_lines.specs.Records.{record_lines, room_of}
-use Rattle.listing.specs.declared.Frame.TheVariants.{Short, Wrong}
+use Rattle.listing.specs.declared.FrameFault.TheVariants.{Short, Wrong}
 use Rattle.listing.specs.declared.Place.{Place}
 use Rattle.listing.specs.Captures.{length_in, frame_of, NoRoomFor}
 use Rattle.numbers.specs.Reports.{Report}
@@ -25,9 +25,9 @@ pub record FrameTold (s : List ℕ) (r : Report) : Type 0 where
 
 -- the records of a buffer s listed up to a place p, with the output d afterwards
 pub record RecordsTold (d s : List ℕ) (p : Place) : Type 0 where
-  pub no_record : ((place_report p).number ≡ 0) ↔ (frame_of (drop p.at s) ≡ Short)
+  pub no_record : ((place_report p).number ≡ 0) ↔ (frame_of (drop p.at s) ≡ Err Short)
   pub no_room : ((place_report p).number ≡ 1) ↔ NoRoomFor d s p
-  pub bad_record : ((place_report p).number ≡ 2) ↔ (frame_of (drop p.at s) ≡ Wrong)
+  pub bad_record : ((place_report p).number ≡ 2) ↔ (frame_of (drop p.at s) ≡ Err Wrong)
 
 -- the lines of record number n with the datagram s, at an offset of an output d that is e afterwards
 pub record RecordTold (d : List ℕ) (at n : ℕ) (s : List ℕ) (r : Report) (e : List ℕ) : Type 0 where

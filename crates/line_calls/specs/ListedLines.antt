@@ -1,12 +1,12 @@
 -- The listing of a capture's records for C and Rust: a number, the lent output, and six lent numbers.
-use Rattle.std.specs.Prelude.{ℕ, cond, List, [], ◌∷◌, length, get_or, leb}
+use Rattle.std.specs.Prelude.{ℕ, cond, List, [], ◌∷◌, length, get_or, leb, Option, Some, None, Ok, Err}
 use Rattle.xdr.specs.declared.Written.{Written}
 use Rattle.xdr.specs.Writes.{Afterwards, afterwards}
 use Rattle.xdr.specs.declared.Written.TheVariants.{WrittenTo, Full}
 use Rattle.record_lines.specs.declared.Listed.{Listed}
-use Rattle.record_lines.specs.declared.Listed.TheVariants.{Accepted, Refused as RefusedRecord, NoRoom}
-use Rattle.listing.specs.declared.Frame.{Frame}
-use Rattle.listing.specs.declared.Frame.TheVariants.{Whole, Short, Wrong}
+use Rattle.record_lines.specs.declared.Listed.TheVariants.{Accepted, Refused as RefusedRecord}
+use Rattle.listing.specs.Captures.{Frame}
+use Rattle.listing.specs.declared.FrameFault.TheVariants.{Short, Wrong}
 use Rattle.listing.specs.declared.Stop.{Stop}
 use Rattle.listing.specs.declared.Stop.TheVariants.{GoesOn, NoRecord, Output, BadRecord}
 use Rattle.listing.specs.declared.State.{State}
@@ -27,15 +27,15 @@ stop_number BadRecord = 2
 -- what octets begin with, by the numbers of a listing that stops there: 0 for less than a record, 1 for a whole one, and the length of its datagram, 2 for a
 -- wrong mark or length
 abbrev pub frame_report : Frame → Report
-frame_report Short = report 0 []
-frame_report (Whole n) = report 1 (n ∷ [])
-frame_report Wrong = report 2 []
+frame_report (Err Short) = report 0 []
+frame_report (Ok n) = report 1 (n ∷ [])
+frame_report (Err Wrong) = report 2 []
 
 -- a record's lines: 0, the offset behind them, and of an accepted datagram how many samples it has; 20 where the output may be too short for them
-abbrev pub listed_report : Listed → Report
-listed_report (Accepted next n) = report 0 (next ∷ n ∷ [])
-listed_report (RefusedRecord next) = report 0 (next ∷ [])
-listed_report NoRoom = report 20 []
+abbrev pub listed_report : Option Listed → Report
+listed_report (Some (Accepted next n)) = report 0 (next ∷ n ∷ [])
+listed_report (Some (RefusedRecord next)) = report 0 (next ∷ [])
+listed_report None = report 20 []
 
 -- lines written: 0 and the offset behind them; 20 where the output may be too short for them
 abbrev pub written_report : Written → Report

@@ -22,7 +22,8 @@ use Rattle.record_lines.specs.Lines.{write_line}
 use Rattle.record_lines.proofs.Room.{room_enough}
 use Rattle.listing.specs.Captures.{frame_of, datagram_in, list_all, begins, StopsAt}
 use Rattle.listing.specs.Texts.{text_from}
-use Rattle.listing.specs.declared.Frame.TheVariants.{Short, Wrong}
+use Rattle.listing.specs.declared.FrameFault.TheVariants.{Short, Wrong}
+use Rattle.std.proofs.Common.{Err}
 use Rattle.listing.specs.declared.Stop.{Stop}
 use Rattle.listing.specs.declared.Stop.TheVariants.{GoesOn, NoRecord, Output, BadRecord}
 use Rattle.listing.proofs.Captures.{frame_short}
@@ -75,7 +76,7 @@ module _ (d e s : List ℕ) (k : ℕ) (t : State) (q : Place) (inside : k ≤ le
       a.text_is ∙ ap (λ (l : List ℕ). a.text ++ text_from q.state l) left_is in
       (lines ++ a.text, h ∙ ap (λ (l : List ℕ). lines ++ l) f ∙ sym (append_assoc lines a.text (text_from q.state (drop (k + q.at) s))))
 
-  left_by : (x : Stop) → q.stop ≡ x → not (is_full x) ≡ true → frame_of (drop q.at (drop k s)) ≡ cond (is_bad x) Wrong Short
+  left_by : (x : Stop) → q.stop ≡ x → not (is_full x) ≡ true → frame_of (drop q.at (drop k s)) ≡ cond (is_bad x) (Err Wrong) (Err Short)
   left_by GoesOn e f = absurd (stops.over e)
   left_by NoRecord e f = stops.no_record.0 e
   left_by Output e f = absurd (true≢false (sym f))
@@ -86,8 +87,8 @@ module _ (d e s : List ℕ) (k : ℕ) (t : State) (q : Place) (inside : k ≤ le
       → Listed begin s (progress (k + q.at) q.state bad false)
   all_listed begin h f bad b =
       let l = more_lines begin h in
-      let rest : frame_of (drop (k + q.at) s) ≡ cond bad Wrong Short =
-      ap frame_of (sym left_is) ∙ left_by q.stop refl f ∙ ap (λ (x : Bool). cond x Wrong Short) (sym b) in
+      let rest : frame_of (drop (k + q.at) s) ≡ cond bad (Err Wrong) (Err Short) =
+      ap frame_of (sym left_is) ∙ left_by q.stop refl f ∙ ap (λ (x : Bool). cond x (Err Wrong) (Err Short)) (sym b) in
       record { inside = listed_part; lines = l.0; text_is = l.1; left = λ _. rest }
 
   -- it failed

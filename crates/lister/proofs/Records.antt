@@ -1,5 +1,5 @@
 -- The records of a buffer that is listed, and the datagrams in them. Assumes nothing.
-use Rattle.std.proofs.Common.{◌≡◌, ℕ, zero, suc, ◌+◌, ◌-◌, ◌*◌, ◌/◌, ◌%◌, ◌<◌, ◌≤◌, Bool, true, false, cond, ltb, leb, List, [], ◌∷◌, ◌++◌, length, take, drop, get_or, sym, refl, ap, ◌∙◌, subst, append_assoc, arith, length-append, length-drop, drop-drop, take-append-drop, le-leb, leb-false, leb-true}
+use Rattle.std.proofs.Common.{◌≡◌, ℕ, zero, suc, ◌+◌, ◌-◌, ◌*◌, ◌/◌, ◌%◌, ◌<◌, ◌≤◌, Bool, true, false, cond, ltb, leb, List, [], ◌∷◌, ◌++◌, length, take, drop, get_or, sym, refl, ap, ◌∙◌, subst, append_assoc, arith, length-append, length-drop, drop-drop, take-append-drop, le-leb, leb-false, leb-true, Ok, Err, Some, None}
 use Rattle.std.proofs.lemmas.List.{append_cancel_right, length-take-le, get_or_append_left}
 use native.Mathlib.Nat.{zero-add}
 use lib.Dec.{eqb}
@@ -12,11 +12,10 @@ use Rattle.reader.specs.declared.datagram.HeadRead.{HeadRead}
 use Rattle.reader.specs.declared.datagram.HeadRead.TheVariants.{Found, Refused}
 use Rattle.xdr.specs.Writes.{stored, Afterwards, afterwards}
 use Rattle.record_lines.specs.Records.{room_of, answer_to, record_lines, list_record}
-use Rattle.record_lines.specs.declared.Listed.TheVariants.{NoRoom}
 use Rattle.listing.specs.Captures.{frame_of, length_in, datagram_in, more, behind, stopped_as, on_frame, on_listing, go_on, list_step, is_over, list_from, list_all, begins}
 use Rattle.listing.specs.Texts.{counted_as, behind_record, record_text, text_from, record_with, capture_of, texts_of, behind_all}
-use Rattle.listing.specs.declared.Frame.{Frame}
-use Rattle.listing.specs.declared.Frame.TheVariants.{Whole, Short, Wrong}
+use Rattle.listing.specs.Captures.{Frame}
+use Rattle.listing.specs.declared.FrameFault.TheVariants.{Short, Wrong}
 use Rattle.listing.specs.declared.Stop.{Stop}
 use Rattle.listing.specs.declared.Stop.TheVariants.{NoRecord, Output, BadRecord}
 use Rattle.listing.specs.declared.State.{State}
@@ -32,13 +31,13 @@ pub record Says (s : List ℕ) (n : ℕ) : Type 0 where
   length_is : length_in s ≡ n
   short : n ≤ 65507
 
-pub whole_says : (s : List ℕ) (n : ℕ) → frame_of s ≡ Whole n → Says s n
+pub whole_says : (s : List ℕ) (n : ℕ) → frame_of s ≡ Ok n → Says s n
 unfolding frame_of
 whole_says s n e =
     go (leb 4 (length s)) (eqb (get_or s 0 0) 115) (eqb (get_or s 1 0) 70) (ltb 65507 (length_in s)) (leb (4 + length_in s) (length s)) refl refl refl refl e
   where
     go : (p q r u v : Bool) → eqb (get_or s 0 0) 115 ≡ q → eqb (get_or s 1 0) 70 ≡ r → ltb 65507 (length_in s) ≡ u → leb (4 + length_in s) (length s) ≡ v
-        → cond p (cond q (cond r (cond u Wrong (cond v (Whole (length_in s)) Short)) Wrong) Wrong) Short ≡ Whole n → Says s n
+        → cond p (cond q (cond r (cond u (Err Wrong) (cond v (Ok (length_in s)) (Err Short))) (Err Wrong)) (Err Wrong)) (Err Short) ≡ Ok n → Says s n
     go false q r u v a b c h x = let z : ◌≡◌ {A = ℕ} 0 1 = cc in absurd (omega arith)
     go true false r u v a b c h x = let z : ◌≡◌ {A = ℕ} 0 1 = cc in absurd (omega arith)
     go true true false u v a b c h x = let z : ◌≡◌ {A = ℕ} 0 1 = cc in absurd (omega arith)
@@ -51,13 +50,13 @@ whole_says s n e =
         record { inside = omega arith; first = eqb-true _ _ a; second = eqb-true _ _ b; length_is = i; short = omega arith }
 
 -- an unfinished record is shorter than the longest record
-pub short_says : (s : List ℕ) → frame_of s ≡ Short → length s < 65511
+pub short_says : (s : List ℕ) → frame_of s ≡ Err Short → length s < 65511
 unfolding frame_of
 short_says s e =
     go (leb 4 (length s)) (eqb (get_or s 0 0) 115) (eqb (get_or s 1 0) 70) (ltb 65507 (length_in s)) (leb (4 + length_in s) (length s)) refl refl refl e
   where
     go : (p q r u v : Bool) → leb 4 (length s) ≡ p → ltb 65507 (length_in s) ≡ u → leb (4 + length_in s) (length s) ≡ v
-        → cond p (cond q (cond r (cond u Wrong (cond v (Whole (length_in s)) Short)) Wrong) Wrong) Short ≡ Short → length s < 65511
+        → cond p (cond q (cond r (cond u (Err Wrong) (cond v (Ok (length_in s)) (Err Short))) (Err Wrong)) (Err Wrong)) (Err Short) ≡ Err Short → length s < 65511
     go false q r u v a c h x = let k : length s < 4 = leb-false _ _ a in omega arith
     go true false r u v a c h x = let z : ◌≡◌ {A = ℕ} 0 1 = cc in absurd (omega arith)
     go true true false u v a c h x = let z : ◌≡◌ {A = ℕ} 0 1 = cc in absurd (omega arith)
@@ -69,11 +68,11 @@ short_says s e =
         omega arith
 
 -- a bad record has its mark and length, and stays bad whatever follows
-pub wrong_says : (s : List ℕ) → frame_of s ≡ Wrong → 4 ≤ length s
+pub wrong_says : (s : List ℕ) → frame_of s ≡ Err Wrong → 4 ≤ length s
 unfolding frame_of
 wrong_says s e = go (leb 4 (length s)) _ refl e
   where
-    go : (p : Bool) (f : Frame) → leb 4 (length s) ≡ p → cond p f Short ≡ Wrong → 4 ≤ length s
+    go : (p : Bool) (f : Frame) → leb 4 (length s) ≡ p → cond p f (Err Short) ≡ Err Wrong → 4 ≤ length s
     go false f a x = let z : ◌≡◌ {A = ℕ} 0 1 = cc in absurd (omega arith)
     go true f a x = leb-true _ _ a
 
@@ -85,7 +84,7 @@ four_first (a ∷ b ∷ []) h = absurd (omega arith)
 four_first (a ∷ b ∷ c ∷ []) h = absurd (omega arith)
 four_first (a ∷ b ∷ c ∷ d ∷ s) h = refl
 
-pub wrong_stays : (s rest : List ℕ) → frame_of s ≡ Wrong → frame_of (s ++ rest) ≡ Wrong
+pub wrong_stays : (s rest : List ℕ) → frame_of s ≡ Err Wrong → frame_of (s ++ rest) ≡ Err Wrong
 unfolding frame_of
 wrong_stays s rest e =
     let h : 4 ≤ length s = wrong_says s e in
@@ -98,8 +97,8 @@ wrong_stays s rest e =
     (go (leb 4 (length s)) (eqb (get_or s 0 0) 115) (eqb (get_or s 1 0) 70) (ltb 65507 (length_in s)) (leb (4 + length_in s) (length s))
     (leb (4 + length_in s) (length (s ++ rest))) (length_in s) e)
   where
-    go : (p q r u v w : Bool) (n : ℕ) → cond p (cond q (cond r (cond u Wrong (cond v (Whole n) Short)) Wrong) Wrong) Short ≡ Wrong
-        → cond q (cond r (cond u Wrong (cond w (Whole n) Short)) Wrong) Wrong ≡ Wrong
+    go : (p q r u v w : Bool) (n : ℕ) → cond p (cond q (cond r (cond u (Err Wrong) (cond v (Ok n) (Err Short))) (Err Wrong)) (Err Wrong)) (Err Short) ≡ Err Wrong
+        → cond q (cond r (cond u (Err Wrong) (cond w (Ok n) (Err Short))) (Err Wrong)) (Err Wrong) ≡ Err Wrong
     go false q r u v w n x = let z : ◌≡◌ {A = ℕ} 0 1 = cc in absurd (omega arith)
     go true false r u v w n x = refl
     go true true false u v w n x = refl
@@ -108,7 +107,7 @@ wrong_stays s rest e =
     go true true true false false w n x = let z : ◌≡◌ {A = ℕ} 0 1 = cc in absurd (omega arith)
 
 -- a whole record in front is one of a datagram
-pub record_front : (s : List ℕ) (n : ℕ) → Octets s → frame_of s ≡ Whole n
+pub record_front : (s : List ℕ) (n : ℕ) → Octets s → frame_of s ≡ Ok n
     → (length (datagram_in s n) ≡ n) × (s ≡ record_with (datagram_in s n) ++ drop (4 + n) s)
 record_front s n o e =
     let says = whole_says s n e in
@@ -167,8 +166,8 @@ step_split : (d s : List ℕ) (p : Place) → Octets s → Split s p (list_step 
 unfolding list_step list_record behind_record
 step_split d s p o = on_frame_is (frame_of (drop p.at s)) refl
   where
-    on_head : (n : ℕ) (a : HeadRead) (out : ℕ) → frame_of (drop p.at s) ≡ Whole n → datagram_read (datagram_in (drop p.at s) n) ≡ a
-        → Splits s p (behind p (4 + n) (answer_to a out))
+    on_head : (n : ℕ) (a : HeadRead) (out : ℕ) → frame_of (drop p.at s) ≡ Ok n → datagram_read (datagram_in (drop p.at s) n) ≡ a
+        → Splits s p (behind p (4 + n) (Some (answer_to a out)))
     on_head n a out e q = by a q
       where
         front : (length (datagram_in (drop p.at s) n) ≡ n) × (drop p.at s ≡ record_with (datagram_in (drop p.at s) n) ++ drop (4 + n) (drop p.at s))
@@ -190,7 +189,7 @@ step_split d s p o = on_frame_is (frame_of (drop p.at s)) refl
             → counted_as p.state (4 + n) a ≡ behind_all p.state (datagram_in (drop p.at s) n ∷ [])
         state a q = ap (λ (k : ℕ). counted_as p.state (4 + k) a) (sym front.0) ∙ ap (counted_as p.state (4 + length (datagram_in (drop p.at s) n))) (sym q)
 
-        by : (a : HeadRead) → datagram_read (datagram_in (drop p.at s) n) ≡ a → Splits s p (behind p (4 + n) (answer_to a out))
+        by : (a : HeadRead) → datagram_read (datagram_in (drop p.at s) n) ≡ a → Splits s p (behind p (4 + n) (Some (answer_to a out)))
         by (Found h) q = record { datagrams = datagram_in (drop p.at s) n ∷ []; fit = fit_is; records_are = records; state_is = state (Found h) q }
         by (Refused why r) q =
             record { datagrams = datagram_in (drop p.at s) n ∷ []; fit = fit_is; records_are = records; state_is = state (Refused why r) q }
@@ -198,16 +197,16 @@ step_split d s p o = on_frame_is (frame_of (drop p.at s)) refl
     lines : ℕ → List ℕ
     lines n = record_lines (more p.state.records 1) (datagram_in (drop p.at s) n)
 
-    on_room : (n : ℕ) (b : Bool) → frame_of (drop p.at s) ≡ Whole n
+    on_room : (n : ℕ) (b : Bool) → frame_of (drop p.at s) ≡ Ok n
         → Split s p (on_listing p (4 + n)
-        (cond b (afterwards (answer_to (datagram_read (datagram_in (drop p.at s) n)) (p.out + length (lines n))) (stored d p.out (lines n))) (afterwards NoRoom d)))
+        (cond b (afterwards (Some (answer_to (datagram_read (datagram_in (drop p.at s) n)) (p.out + length (lines n)))) (stored d p.out (lines n))) (afterwards None d)))
     on_room n true e = on_head n (datagram_read (datagram_in (drop p.at s) n)) (p.out + length (lines n)) e refl
     on_room n false e = stays s p Output
 
     on_frame_is : (f : Frame) → frame_of (drop p.at s) ≡ f → Split s p (on_frame d (drop p.at s) p f)
-    on_frame_is Short e = stays s p NoRecord
-    on_frame_is Wrong e = stays s p BadRecord
-    on_frame_is (Whole n) e = on_room n (leb (p.out + room_of (datagram_read (datagram_in (drop p.at s) n))) (length d)) e
+    on_frame_is (Err Short) e = stays s p NoRecord
+    on_frame_is (Err Wrong) e = stays s p BadRecord
+    on_frame_is (Ok n) e = on_room n (leb (p.out + room_of (datagram_read (datagram_in (drop p.at s) n))) (length d)) e
 
 chain : (s : List ℕ) (p q r : Place) → Splits s p q → Splits s q r → Splits s p r
 chain s p q r a b =

@@ -1,5 +1,5 @@
 -- A capture that is listed part by part. Assumes nothing.
-use Rattle.std.proofs.Common.{◌≡◌, ℕ, ◌+◌, ◌-◌, ◌<◌, ◌≤◌, Bool, true, false, List, [], ◌∷◌, ◌++◌, length, take, drop, sym, refl, ap, ◌∙◌, subst, append_assoc, append-nil, arith, drop-drop, length-drop, take_all, Option, None, Some}
+use Rattle.std.proofs.Common.{◌≡◌, ℕ, ◌+◌, ◌-◌, ◌<◌, ◌≤◌, Bool, true, false, List, [], ◌∷◌, ◌++◌, length, take, drop, sym, refl, ap, ◌∙◌, subst, append_assoc, append-nil, arith, drop-drop, length-drop, take_all, Option, None, Some, Err}
 use mathlib.Core.Bool.{true≢false}
 use Rattle.std.proofs.lemmas.List.{drop-take, length-take-le}
 use Rattle.xdr.specs.Numbers.{Octets}
@@ -9,7 +9,7 @@ use Rattle.std.specs.Io.KnownBytes.{Consumes, Appends, IsAtEnd}
 use Rattle.std.proofs.KnownBytes.{Consumes-nil, Consumes-trans, Appends-nil, Appends-trans}
 use Rattle.listing.specs.Captures.{frame_of, list_all}
 use Rattle.listing.specs.Texts.{nothing_listed, end_text, text_within, text_from, capture_of, texts_of, behind_all}
-use Rattle.listing.specs.declared.Frame.TheVariants.{Short, Wrong}
+use Rattle.listing.specs.declared.FrameFault.TheVariants.{Short, Wrong}
 use Rattle.listing.specs.declared.State.{State}
 use Rattle.listing.specs.declared.Place.{Place}
 use Rattle.listing.proofs.Texts.{Fit, none, one, text_parts}
@@ -151,12 +151,12 @@ module _ (input left before after : Option (List ℕ)) (state : State) (held : L
           ∙ sym (texts_parts nothing_listed h.datagrams l.datagrams)
 
 -- no record in front: the text is that of the end
-text_short : (t : State) (s : List ℕ) → frame_of s ≡ Short → text_from t s ≡ end_text t s
+text_short : (t : State) (s : List ℕ) → frame_of s ≡ Err Short → text_from t s ≡ end_text t s
 unfolding text_from text_within
 text_short t [] e = refl
 text_short t (x ∷ s) e = rw e
 
-text_wrong : (t : State) (s : List ℕ) → frame_of s ≡ Wrong → text_from t s ≡ end_text t s
+text_wrong : (t : State) (s : List ℕ) → frame_of s ≡ Err Wrong → text_from t s ≡ end_text t s
 unfolding text_from text_within
 text_wrong t [] e = refl
 text_wrong t (x ∷ s) e = rw e
@@ -167,7 +167,7 @@ end_same t (x ∷ s) rest h = refl
 
 -- at the end of the input
 pub over_at_end : (input left before after now : Option (List ℕ)) (state : State) (held : List ℕ) → Streamed input left before after state held
-    → IsAtEnd left → frame_of held ≡ Short → Appends after now (end_text state held) → ListsAll input before now
+    → IsAtEnd left → frame_of held ≡ Err Short → Appends after now (end_text state held) → ListsAll input before now
 over_at_end None left before after now state held h e f w = tt
 over_at_end (Some xs) None before after now state held h e f w = absurd h.read
 over_at_end (Some xs) (Some ys) before after now state held h e f w =
@@ -181,7 +181,7 @@ over_at_end (Some xs) (Some ys) before after now state held h e f w =
 
 -- at a bad record
 pub over_at_bad : (input left before after now : Option (List ℕ)) (state : State) (held : List ℕ) → Streamed input left before after state held
-    → frame_of held ≡ Wrong → Appends after now (end_text state held) → ListsAll input before now
+    → frame_of held ≡ Err Wrong → Appends after now (end_text state held) → ListsAll input before now
 over_at_bad None left before after now state held h f w = tt
 over_at_bad (Some xs) None before after now state held h f w = absurd h.read
 over_at_bad (Some xs) (Some ys) before after now state held h f w =
@@ -221,7 +221,7 @@ moved_to_front s from end low high =
     ap (λ (k : ℕ). take k (stored s 0 part)) (sym long) ∙ front_of_stored s part ∙ sym (rest_of_front s from end low)
 
 -- an unfinished record leaves room in a buffer that takes the longest
-pub room_left : (s : List ℕ) (held : ℕ) → held ≤ length s → frame_of (take held s) ≡ Short → 65511 ≤ length s → held < length s
+pub room_left : (s : List ℕ) (held : ℕ) → held ≤ length s → frame_of (take held s) ≡ Err Short → 65511 ≤ length s → held < length s
 room_left s held h f room =
     let short : length (take held s) < 65511 = short_says (take held s) f in
     let long : length (take held s) ≡ held = length-take-le held s h in
@@ -229,13 +229,13 @@ room_left s held h f room =
 
 -- nothing more was read, behind the held octets
 pub ends_at_end : (input left before after now : Option (List ℕ)) (state : State) (new : List ℕ) (held end : ℕ) → Streamed input left before after state (take end new)
-    → end ≡ held → IsAtEnd left → frame_of (take held new) ≡ Short → Appends after now (end_text state (take held new)) → ListsAll input before now
+    → end ≡ held → IsAtEnd left → frame_of (take held new) ≡ Err Short → Appends after now (end_text state (take held new)) → ListsAll input before now
 ends_at_end input left before after now state new held end h e at_end f w =
     over_at_end input left before after now state (take held new) (subst (λ (k : ℕ). Streamed input left before after state (take k new)) e h) at_end f w
 
 -- a bad record stands in front of what is left
 pub ends_at_bad : (input left before after now : Option (List ℕ)) (state : State) (new : List ℕ) (from end : ℕ) → Streamed input left before after state (drop from (take end new))
-    → from ≤ end → frame_of (drop from (take end new)) ≡ Wrong → Appends after now (end_text state (take (end - from) (drop from new))) → ListsAll input before now
+    → from ≤ end → frame_of (drop from (take end new)) ≡ Err Wrong → Appends after now (end_text state (take (end - from) (drop from new))) → ListsAll input before now
 ends_at_bad input left before after now state new from end h low f w =
     over_at_bad input left before after now state (drop from (take end new)) h f
     (subst (λ (l : List ℕ). Appends after now (end_text state l)) (sym (rest_of_front new from end low)) w)

@@ -1,10 +1,10 @@
 -- What the program does with the octets that it holds (document 01, "Listing a capture").
-use Rattle.std.specs.Prelude.{ℕ, ◌≤◌, ◌≡◌, Bool, true, false, cond, List, [], ◌∷◌, ◌++◌, length, drop, Option, IfSome, ⊤}
+use Rattle.std.specs.Prelude.{ℕ, ◌≤◌, ◌≡◌, Bool, true, false, cond, List, [], ◌∷◌, ◌++◌, length, drop, Option, IfSome, ⊤, Err}
 use Rattle.std.specs.Io.KnownBytes.{Appends}
 use Rattle.listing.specs.declared.State.{State}
 use Rattle.listing.specs.declared.Stop.{Stop}
 use Rattle.listing.specs.declared.Stop.TheVariants.{GoesOn, NoRecord, Output, BadRecord}
-use Rattle.listing.specs.declared.Frame.TheVariants.{Short, Wrong}
+use Rattle.listing.specs.declared.FrameFault.TheVariants.{Short, Wrong}
 use Rattle.listing.specs.Captures.{frame_of}
 use Rattle.listing.specs.Texts.{nothing_listed, text_from, capture_of, texts_of, behind_all}
 use Rattle.lister.specs.declared.Progress.{Progress}
@@ -36,7 +36,7 @@ pub record Listed (begin : State) (s : List ℕ) (p : Progress) : Type 0 where
   pub inside : p.listed ≤ length s
   pub lines : List ℕ
   pub text_is : text_from begin s ≡ lines ++ text_from p.state (drop p.listed s)
-  pub left : p.failed ≡ false → frame_of (drop p.listed s) ≡ cond p.bad Wrong Short
+  pub left : p.failed ≡ false → frame_of (drop p.listed s) ≡ cond p.bad (Err Wrong) (Err Short)
 
 -- each datagram is short enough for the length of its record
 abbrev pub FitRecords : List (List ℕ) → Type 0

@@ -2,7 +2,7 @@
 // octets: it reads in large pieces, keeps at most an unfinished record, and writes in large pieces.
 #![tactic(auto)]
 
-ghost use Rattle.std.specs.Prelude.{◌-◌, ◌<◌, ◌≤◌, ◌≡◌, IfOk, true, false, length, take, drop};
+ghost use Rattle.std.specs.Prelude.{◌-◌, ◌<◌, ◌≤◌, ◌≡◌, IfOk, IfSome, true, false, length, take, drop};
 ghost use Rattle.std.specs.Io.KnownBytes.{Appends, Consumes, IsAtEnd};
 ghost use Rattle.xdr.specs.Writes.{stored};
 ghost use Rattle.listing.specs.Texts.{nothing_listed, end_text};
@@ -31,51 +31,34 @@ fn fail<E: Eprint + AllocGlobal>(rt: &E, what: &str, error: io::Error) {
     }
 }
 
-// What was read: the end of the octets now held, which stays where the input has ended or a read failed.
-#[derive(Drop)]
-struct Filled {
-    end: usize,
-    failed: bool,
-}
-
-// Reads once behind the held octets; a read that a signal interrupts is tried again.
+// Reads once behind the held octets and answers the end of the octets now held, which stays where the input has ended; a read that a signal interrupts is
+// tried again. None where a read failed.
 fn fill<E: Eprint + AllocGlobal, R: Read>(
     rt: &E,
     reader: &mut R,
     input: &mut [u8],
     held: usize,
-) -> Filled
+) -> Option<usize>
     requires { held ≤ length input.old }
-    ensures inside { (held ≤ result.end) × (result.end ≤ length input.new) }
+    ensures inside { IfSome result (λ end. (held ≤ end) × (end ≤ length input.new)) }
     ensures front { take held input.new ≡ take held input.old }
-    ensures read { result.failed ≡ false → Consumes (R.remaining reader.old) (R.remaining reader.new)
-        (take (result.end - held) (drop held input.new)) }
-    ensures ended { result.failed ≡ false → result.end ≡ held → held < length input.old →
-        IsAtEnd (R.remaining reader.new) }
+    ensures read { IfSome result (λ end. Consumes (R.remaining reader.old) (R.remaining reader.new)
+        (take (end - held) (drop held input.new))) }
+    ensures ended { IfSome result (λ end. end ≡ held → held < length input.old →
+        IsAtEnd (R.remaining reader.new)) }
 {
     for _ in 0..u64::MAX {
         match reader.read(&mut input[held..]) {
-            Ok(more) => {
-                return Filled {
-                    end: held + more,
-                    failed: false,
-                };
-            }
+            Ok(more) => return Some(held + more),
             Err(error) => {
                 if error.kind() != ErrorKind::Interrupted {
                     fail(rt, "lister: cannot read standard input", error);
-                    return Filled {
-                        end: held,
-                        failed: true,
-                    };
+                    return None;
                 }
             }
         }
     }
-    Filled {
-        end: held,
-        failed: true,
-    }
+    None
 }
 
 // Writes once and answers how many octets were taken, of which there is one at least. A write that a signal interrupts is tried again.
@@ -119,6 +102,7 @@ fn flush<E: Eprint + AllocGlobal, W: Write>(rt: &E, writer: &mut W, output: &[u8
 }
 
 // Where listing stands: how many of the held octets are listed, what was counted, whether what is left is a bad record, and whether the output failed.
+// `failed` is no error of its own: where the output failed, what was listed is still promised (`Listed`, `Lists`).
 #[derive(Drop)]
 struct Progress {
     listed: usize,
@@ -142,24 +126,14 @@ fn stand_at(listed: usize, state: State, bad: bool, failed: bool) -> Progress
 fn is_full(stop: Stop) -> bool
     ensures { result ≡ is_full stop }
 {
-    match stop {
-        Stop::GoesOn => false,
-        Stop::NoRecord => false,
-        Stop::Output => true,
-        Stop::BadRecord => false,
-    }
+    matches!(stop, Stop::Output)
 }
 
 // Whether it stopped at a bad record.
 fn is_bad(stop: Stop) -> bool
     ensures { result ≡ is_bad stop }
 {
-    match stop {
-        Stop::GoesOn => false,
-        Stop::NoRecord => false,
-        Stop::Output => false,
-        Stop::BadRecord => true,
-    }
+    matches!(stop, Stop::BadRecord)
 }
 
 // Lists all whole records held and writes their lines.
@@ -249,11 +223,9 @@ fn list_input<E: Eprint + AllocGlobal, R: Read, W: Write>(
     let mut state = nothing_listed();
     let mut held = 0;
     for _ in 0..u64::MAX {
-        let filled = fill(rt, reader, input, held);
-        if filled.failed {
+        let Some(end) = fill(rt, reader, input, held) else {
             return false;
-        }
-        let end = filled.end;
+        };
         if end == held {
             return finish(rt, writer, output, state, &input[..held]);
         }

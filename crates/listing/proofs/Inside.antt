@@ -1,12 +1,12 @@
 -- The place that listing comes to lies inside the buffer and the output; where it moves in neither, nothing was listed. Assumes nothing.
-use Rattle.std.proofs.Common.{◌≡◌, ℕ, zero, suc, ◌+◌, ◌<◌, ◌≤◌, Bool, true, false, cond, ◌⊎◌, List, ◌++◌, length, drop, sym, refl, ap, ◌∙◌, subst, inl, inr, arith, length-append}
+use Rattle.std.proofs.Common.{◌≡◌, ℕ, zero, suc, ◌+◌, ◌<◌, ◌≤◌, Bool, true, false, cond, ◌⊎◌, List, ◌++◌, length, drop, sym, refl, ap, ◌∙◌, subst, inl, inr, arith, length-append, Ok, Err, Option, Some, None}
 use Rattle.record_lines.specs.declared.Listed.{Listed}
 use Rattle.xdr.specs.Writes.{stored, Afterwards, afterwards}
 use Rattle.record_lines.specs.Records.{list_record}
 use Rattle.listing.specs.Captures.{frame_of, datagram_in, more, on_frame, on_listing, go_on, list_step, is_over, list_from, list_all, begins}
-use Rattle.record_lines.specs.declared.Listed.TheVariants.{Accepted, Refused, NoRoom}
-use Rattle.listing.specs.declared.Frame.{Frame}
-use Rattle.listing.specs.declared.Frame.TheVariants.{Whole, Short, Wrong}
+use Rattle.record_lines.specs.declared.Listed.TheVariants.{Accepted, Refused}
+use Rattle.listing.specs.Captures.{Frame}
+use Rattle.listing.specs.declared.FrameFault.TheVariants.{Short, Wrong}
 use Rattle.listing.specs.declared.State.{State}
 use Rattle.listing.specs.declared.Place.{Place}
 use Rattle.listing.proofs.Captures.{whole_at}
@@ -19,15 +19,15 @@ step_inside : (d s : List ℕ) (p : Place) → p.at ≤ length s → Inside s (l
 unfolding list_step
 step_inside d s p h = on_frame_is (frame_of (drop p.at s)) refl
   where
-    on_listing_is : (n : ℕ) → p.at + (4 + n) ≤ length s → (l : Afterwards Listed) → Inside s (on_listing p (4 + n) l)
-    on_listing_is n k (afterwards NoRoom e) = h
-    on_listing_is n k (afterwards (Refused out) e) = k
-    on_listing_is n k (afterwards (Accepted out count) e) = k
+    on_listing_is : (n : ℕ) → p.at + (4 + n) ≤ length s → (l : Afterwards (Option Listed)) → Inside s (on_listing p (4 + n) l)
+    on_listing_is n k (afterwards None e) = h
+    on_listing_is n k (afterwards (Some (Refused out)) e) = k
+    on_listing_is n k (afterwards (Some (Accepted out count)) e) = k
 
     on_frame_is : (f : Frame) → frame_of (drop p.at s) ≡ f → Inside s (on_frame d (drop p.at s) p f)
-    on_frame_is Short e = h
-    on_frame_is Wrong e = h
-    on_frame_is (Whole n) e =
+    on_frame_is (Err Short) e = h
+    on_frame_is (Err Wrong) e = h
+    on_frame_is (Ok n) e =
         let w = whole_at s p.at n e in
         on_listing_is n (omega arith) (list_record d p.out (more p.state.records 1) (datagram_in (drop p.at s) n))
 
@@ -75,15 +75,15 @@ step_onward : (d s : List ℕ) (p : Place) → Onward p (list_step d s p)
 unfolding list_step
 step_onward d s p = on_frame_is (frame_of (drop p.at s))
   where
-    on_listing_is : (n : ℕ) (l : Afterwards Listed) → Onward p (on_listing p (4 + n) l)
-    on_listing_is n (afterwards NoRoom e) = inr (refl, refl)
-    on_listing_is n (afterwards (Refused out) e) = inl (omega arith)
-    on_listing_is n (afterwards (Accepted out count) e) = inl (omega arith)
+    on_listing_is : (n : ℕ) (l : Afterwards (Option Listed)) → Onward p (on_listing p (4 + n) l)
+    on_listing_is n (afterwards None e) = inr (refl, refl)
+    on_listing_is n (afterwards (Some (Refused out)) e) = inl (omega arith)
+    on_listing_is n (afterwards (Some (Accepted out count)) e) = inl (omega arith)
 
     on_frame_is : (f : Frame) → Onward p (on_frame d (drop p.at s) p f)
-    on_frame_is Short = inr (refl, refl)
-    on_frame_is Wrong = inr (refl, refl)
-    on_frame_is (Whole n) = on_listing_is n (list_record d p.out (more p.state.records 1) (datagram_in (drop p.at s) n))
+    on_frame_is (Err Short) = inr (refl, refl)
+    on_frame_is (Err Wrong) = inr (refl, refl)
+    on_frame_is (Ok n) = on_listing_is n (list_record d p.out (more p.state.records 1) (datagram_in (drop p.at s) n))
 
 from_onward : (n : ℕ) (d s : List ℕ) (p : Place) → Onward p (list_from n d s p)
 unfolding list_from

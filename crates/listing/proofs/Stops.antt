@@ -1,14 +1,13 @@
 -- Why listing stops: each reason exactly where it holds. Assumes nothing.
-use Rattle.std.proofs.Common.{◌≡◌, ℕ, zero, suc, ◌+◌, ◌<◌, ◌≤◌, Bool, true, false, cond, leb, ◌⊎◌, ◌↔◌, List, length, drop, sym, refl, ap, ◌∙◌, subst, inl, inr, true≢false, arith, leb-false}
+use Rattle.std.proofs.Common.{◌≡◌, ℕ, zero, suc, ◌+◌, ◌<◌, ◌≤◌, Bool, true, false, cond, leb, ◌⊎◌, ◌↔◌, List, length, drop, sym, refl, ap, ◌∙◌, subst, inl, inr, true≢false, arith, leb-false, Ok, Err, Some, None}
 use Rattle.reader.specs.Datagrams.{datagram_read}
 use Rattle.xdr.specs.Writes.{stored, Afterwards, afterwards}
 use Rattle.reader.specs.declared.datagram.HeadRead.{HeadRead}
 use Rattle.reader.specs.declared.datagram.HeadRead.TheVariants.{Found, Refused}
 use Rattle.record_lines.specs.Records.{record_lines, room_of, answer_to, list_record}
-use Rattle.record_lines.specs.declared.Listed.TheVariants.{NoRoom}
 use Rattle.listing.specs.Captures.{frame_of, datagram_in, more, behind, on_frame, on_listing, go_on, list_step, is_over, list_from, begins, list_all, NoRoomFor, StopsAt}
-use Rattle.listing.specs.declared.Frame.{Frame}
-use Rattle.listing.specs.declared.Frame.TheVariants.{Whole, Short, Wrong}
+use Rattle.listing.specs.Captures.{Frame}
+use Rattle.listing.specs.declared.FrameFault.TheVariants.{Short, Wrong}
 use Rattle.listing.specs.declared.Stop.{Stop}
 use Rattle.listing.specs.declared.Stop.TheVariants.{GoesOn, NoRecord, Output, BadRecord}
 use Rattle.listing.specs.declared.State.{State}
@@ -18,51 +17,34 @@ use Rattle.listing.proofs.Captures.{frame_short}
 -- ---- one reason, with what it says
 
 data Because (d s : List ℕ) (p : Place) : Type 0 where
-  short : p.stop ≡ NoRecord → frame_of (drop p.at s) ≡ Short → Because d s p
-  wrong : p.stop ≡ BadRecord → frame_of (drop p.at s) ≡ Wrong → Because d s p
+  short : p.stop ≡ NoRecord → frame_of (drop p.at s) ≡ Err Short → Because d s p
+  wrong : p.stop ≡ BadRecord → frame_of (drop p.at s) ≡ Err Wrong → Because d s p
   full : p.stop ≡ Output → NoRoomFor d s p → Because d s p
-
-abbrev stop_rank : Stop → ℕ
-stop_rank GoesOn = 0
-stop_rank NoRecord = 1
-stop_rank Output = 2
-stop_rank BadRecord = 3
-
-abbrev frame_rank : Frame → ℕ
-frame_rank Short = 0
-frame_rank Wrong = 1
-frame_rank (Whole n) = 2
-
-two_stops : {A : Type 0} (x a b : Stop) → x ≡ a → x ≡ b → (stop_rank a ≡ stop_rank b → ⊥) → A
-two_stops x a b e f n = absurd (n (ap stop_rank (sym e ∙ f)))
-
-two_frames : {A : Type 0} (x a b : Frame) → x ≡ a → x ≡ b → (frame_rank a ≡ frame_rank b → ⊥) → A
-two_frames x a b e f n = absurd (n (ap frame_rank (sym e ∙ f)))
 
 module _ (d s : List ℕ) (p : Place) where
   over : Because d s p → p.stop ≡ GoesOn → ⊥
-  over (short e f) x = two_stops _ _ _ e x (λ z. omega arith)
-  over (wrong e f) x = two_stops _ _ _ e x (λ z. omega arith)
-  over (full e f) x = two_stops _ _ _ e x (λ z. omega arith)
+  over (short e f) x = absurd (cc (e, x))
+  over (wrong e f) x = absurd (cc (e, x))
+  over (full e f) x = absurd (cc (e, x))
 
   is_over_is : Because d s p → is_over p.stop ≡ true
   is_over_is (short e f) = rw e
   is_over_is (wrong e f) = rw e
   is_over_is (full e f) = rw e
 
-  no_record : Because d s p → (p.stop ≡ NoRecord) ↔ (frame_of (drop p.at s) ≡ Short)
+  no_record : Because d s p → (p.stop ≡ NoRecord) ↔ (frame_of (drop p.at s) ≡ Err Short)
   no_record (short e f) = (λ _. f, λ _. e)
-  no_record (wrong e f) = (λ x. two_stops _ _ _ e x (λ z. omega arith), λ x. two_frames _ _ _ f x (λ z. omega arith))
-  no_record (full e f) = (λ x. two_stops _ _ _ e x (λ z. omega arith), λ x. two_frames _ _ _ f.whole x (λ z. omega arith))
+  no_record (wrong e f) = (λ x. absurd (cc (e, x)), λ x. absurd (cc (f, x)))
+  no_record (full e f) = (λ x. absurd (cc (e, x)), λ x. absurd (cc (f.whole, x)))
 
-  bad_record : Because d s p → (p.stop ≡ BadRecord) ↔ (frame_of (drop p.at s) ≡ Wrong)
-  bad_record (short e f) = (λ x. two_stops _ _ _ e x (λ z. omega arith), λ x. two_frames _ _ _ f x (λ z. omega arith))
+  bad_record : Because d s p → (p.stop ≡ BadRecord) ↔ (frame_of (drop p.at s) ≡ Err Wrong)
+  bad_record (short e f) = (λ x. absurd (cc (e, x)), λ x. absurd (cc (f, x)))
   bad_record (wrong e f) = (λ _. f, λ _. e)
-  bad_record (full e f) = (λ x. two_stops _ _ _ e x (λ z. omega arith), λ x. two_frames _ _ _ f.whole x (λ z. omega arith))
+  bad_record (full e f) = (λ x. absurd (cc (e, x)), λ x. absurd (cc (f.whole, x)))
 
   no_room : Because d s p → (p.stop ≡ Output) ↔ NoRoomFor d s p
-  no_room (short e f) = (λ x. two_stops _ _ _ e x (λ z. omega arith), λ x. two_frames _ _ _ f x.whole (λ z. omega arith))
-  no_room (wrong e f) = (λ x. two_stops _ _ _ e x (λ z. omega arith), λ x. two_frames _ _ _ f x.whole (λ z. omega arith))
+  no_room (short e f) = (λ x. absurd (cc (e, x)), λ x. absurd (cc (f, x.whole)))
+  no_room (wrong e f) = (λ x. absurd (cc (e, x)), λ x. absurd (cc (f, x.whole)))
   no_room (full e f) = (λ _. f, λ _. e)
 
   stops_at : Because d s p → StopsAt d s p
@@ -80,21 +62,21 @@ step_because d s p = on_frame_is (frame_of (drop p.at s)) refl
     lines : ℕ → List ℕ
     lines n = record_lines (more p.state.records 1) (datagram_in (drop p.at s) n)
 
-    on_head : (n : ℕ) (a : HeadRead) → Step s p (afterwards (behind p (4 + n) (answer_to a (p.out + length (lines n)))) (stored d p.out (lines n)))
+    on_head : (n : ℕ) (a : HeadRead) → Step s p (afterwards (behind p (4 + n) (Some (answer_to a (p.out + length (lines n))))) (stored d p.out (lines n)))
     on_head n (Found h) = inr (refl, omega arith)
     on_head n (Refused why r) = inr (refl, omega arith)
 
-    on_room : (n : ℕ) (b : Bool) → frame_of (drop p.at s) ≡ Whole n
+    on_room : (n : ℕ) (b : Bool) → frame_of (drop p.at s) ≡ Ok n
         → leb (p.out + room_of (datagram_read (datagram_in (drop p.at s) n))) (length d) ≡ b
         → Step s p (on_listing p (4 + n)
-        (cond b (afterwards (answer_to (datagram_read (datagram_in (drop p.at s) n)) (p.out + length (lines n))) (stored d p.out (lines n))) (afterwards NoRoom d)))
+        (cond b (afterwards (Some (answer_to (datagram_read (datagram_in (drop p.at s) n)) (p.out + length (lines n)))) (stored d p.out (lines n))) (afterwards None d)))
     on_room n true e f = on_head n (datagram_read (datagram_in (drop p.at s) n))
     on_room n false e f = inl (full refl (record { len = n; whole = e; no_room = leb-false _ _ f }))
 
     on_frame_is : (f : Frame) → frame_of (drop p.at s) ≡ f → Step s p (on_frame d (drop p.at s) p f)
-    on_frame_is Short e = inl (short refl e)
-    on_frame_is Wrong e = inl (wrong refl e)
-    on_frame_is (Whole n) e = on_room n (leb (p.out + room_of (datagram_read (datagram_in (drop p.at s) n))) (length d)) e refl
+    on_frame_is (Err Short) e = inl (short refl e)
+    on_frame_is (Err Wrong) e = inl (wrong refl e)
+    on_frame_is (Ok n) e = on_room n (leb (p.out + room_of (datagram_read (datagram_in (drop p.at s) n))) (length d)) e refl
 
 -- ---- all records: the turns run out only at the end of the octets
 

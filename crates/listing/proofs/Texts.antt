@@ -1,5 +1,5 @@
 -- Laws of a capture's text: the records of a buffer are a step of it, and so are records in front. Assumes nothing.
-use Rattle.std.proofs.Common.{◌≡◌, ℕ, zero, suc, ◌+◌, ◌*◌, ◌/◌, ◌%◌, ◌<◌, ◌≤◌, Bool, true, false, cond, ltb, leb, List, [], ◌∷◌, ◌++◌, length, take, drop, sym, refl, ap, ◌∙◌, append_assoc, not-suc-le-zero, add_assoc, arith, length-append, length-drop, drop_of_length-le, take_all, drop-drop, take_at, drop_at, le-ltb, lt-ltb, le-leb, leb-false, leb-true}
+use Rattle.std.proofs.Common.{◌≡◌, ℕ, zero, suc, ◌+◌, ◌*◌, ◌/◌, ◌%◌, ◌<◌, ◌≤◌, Bool, true, false, cond, ltb, leb, List, [], ◌∷◌, ◌++◌, length, take, drop, sym, refl, ap, ◌∙◌, append_assoc, not-suc-le-zero, add_assoc, arith, length-append, length-drop, drop_of_length-le, take_all, drop-drop, take_at, drop_at, le-ltb, lt-ltb, le-leb, leb-false, leb-true, Ok, Err, Some, None}
 use Rattle.reader.specs.Datagrams.{datagram_read}
 use Rattle.xdr.specs.Writes.{stored, Afterwards, afterwards}
 use Rattle.xdr.proofs.Writing.{stored_front, stored_back}
@@ -9,9 +9,8 @@ use Rattle.record_lines.specs.Records.{record_lines, room_of, answer_to, list_re
 use Rattle.listing.specs.Captures.{frame_of, datagram_in, more, behind, stopped_as, on_frame, on_listing, go_on}
 use Rattle.listing.specs.Captures.{list_step, is_over, list_from, list_all, begins}
 use Rattle.listing.specs.Texts.{end_lines, end_text, counted_as, behind_record, record_text, on_record, text_within, text_from, record_with, capture_of, texts_of, behind_all}
-use Rattle.record_lines.specs.declared.Listed.TheVariants.{NoRoom}
-use Rattle.listing.specs.declared.Frame.{Frame}
-use Rattle.listing.specs.declared.Frame.TheVariants.{Whole, Short, Wrong}
+use Rattle.listing.specs.Captures.{Frame}
+use Rattle.listing.specs.declared.FrameFault.TheVariants.{Short, Wrong}
 use Rattle.listing.specs.declared.Stop.{Stop}
 use Rattle.listing.specs.declared.Stop.TheVariants.{NoRecord, Output, BadRecord}
 use Rattle.listing.specs.declared.State.{State}
@@ -31,21 +30,21 @@ within_same (suc n) (suc m) t s h k = go (frame_of s) (within_same n m)
   where
     go : (f : Frame) → ((t : State) (s : List ℕ) → length s ≤ n → length s ≤ m → text_within n t s ≡ text_within m t s)
         → on_record t s f (text_within n) ≡ on_record t s f (text_within m)
-    go (Whole i) same =
+    go (Ok i) same =
         let l = length-drop (4 + i) s in
         let a : length (drop (4 + i) s) ≤ n = omega arith in
         let b : length (drop (4 + i) s) ≤ m = omega arith in
         ap (λ (xs : List ℕ). record_text t (datagram_in s i) ++ xs) (same (behind_record t i (datagram_in s i)) (drop (4 + i) s) a b)
-    go Short same = refl
-    go Wrong same = refl
+    go (Err Short) same = refl
+    go (Err Wrong) same = refl
 
-within_step : (n : ℕ) (t : State) (s : List ℕ) (i : ℕ) → frame_of s ≡ Whole i
+within_step : (n : ℕ) (t : State) (s : List ℕ) (i : ℕ) → frame_of s ≡ Ok i
     → text_within (suc n) t s ≡ record_text t (datagram_in s i) ++ text_within n (behind_record t i (datagram_in s i)) (drop (4 + i) s)
 unfolding text_within
 within_step n t s i e = rw e
 
 -- a whole record in front: its lines, and the text of what is behind it
-pub text_step : (t : State) (s : List ℕ) (n : ℕ) → frame_of s ≡ Whole n
+pub text_step : (t : State) (s : List ℕ) (n : ℕ) → frame_of s ≡ Ok n
     → text_from t s ≡ record_text t (datagram_in s n) ++ text_from (behind_record t n (datagram_in s n)) (drop (4 + n) s)
 unfolding text_from
 text_step t s n e =
@@ -59,7 +58,7 @@ text_step t s n e =
 
 -- ---- records in front of a capture
 
-record_front : (x rest : List ℕ) → length x ≤ 65507 → frame_of (record_with x ++ rest) ≡ Whole (length x)
+record_front : (x rest : List ℕ) → length x ≤ 65507 → frame_of (record_with x ++ rest) ≡ Ok (length x)
 unfolding frame_of
 record_front x rest h =
     let whole : length x / 256 * 256 + length x % 256 ≡ length x = omega arith in
@@ -78,7 +77,7 @@ pub text_parts : (t : State) (xs : List (List ℕ)) (rest : List ℕ) → Fit xs
 text_parts t [] rest f = refl
 text_parts t (x ∷ xs) rest (one h f) =
     let s : List ℕ = record_with x ++ (capture_of xs ++ rest) in
-    let front : frame_of s ≡ Whole (length x) = record_front x (capture_of xs ++ rest) h in
+    let front : frame_of s ≡ Ok (length x) = record_front x (capture_of xs ++ rest) h in
     let own : datagram_in s (length x) ≡ x = take_at x (capture_of xs ++ rest) (length x) refl in
     let back : drop (4 + length x) s ≡ capture_of xs ++ rest = sym (drop-drop (length x) 4 s) ∙ drop_at x (capture_of xs ++ rest) (length x) refl in
     let u : State = behind_record t (length x) x in
@@ -133,7 +132,7 @@ Told d s p (afterwards q e) = Tells d s p q e
 stays : (d s : List ℕ) (p : Place) (x : Stop) → Tells d s p (stopped_as p x) d
 stays d s p x = record { text = []; octets_are = sym (stored_none d p.out); out_is = omega arith; text_is = refl }
 
-text_behind : (t : State) (s : List ℕ) (at n : ℕ) (a : HeadRead) → frame_of (drop at s) ≡ Whole n → datagram_read (datagram_in (drop at s) n) ≡ a
+text_behind : (t : State) (s : List ℕ) (at n : ℕ) (a : HeadRead) → frame_of (drop at s) ≡ Ok n → datagram_read (datagram_in (drop at s) n) ≡ a
     → text_from t (drop at s)
     ≡ record_lines (more t.records 1) (datagram_in (drop at s) n) ++ text_from (counted_as t (4 + n) a) (drop (at + (4 + n)) s)
 unfolding record_text behind_record
@@ -146,23 +145,23 @@ step_told d s p = on_frame_is (frame_of (drop p.at s)) refl
     lines : ℕ → List ℕ
     lines n = record_lines (more p.state.records 1) (datagram_in (drop p.at s) n)
 
-    on_head : (n : ℕ) (a : HeadRead) → frame_of (drop p.at s) ≡ Whole n → datagram_read (datagram_in (drop p.at s) n) ≡ a
-        → Tells d s p (behind p (4 + n) (answer_to a (p.out + length (lines n)))) (stored d p.out (lines n))
+    on_head : (n : ℕ) (a : HeadRead) → frame_of (drop p.at s) ≡ Ok n → datagram_read (datagram_in (drop p.at s) n) ≡ a
+        → Tells d s p (behind p (4 + n) (Some (answer_to a (p.out + length (lines n))))) (stored d p.out (lines n))
     on_head n (Found h) e q =
         record { text = lines n; octets_are = refl; out_is = refl; text_is = text_behind p.state s p.at n (Found h) e q }
     on_head n (Refused why r) e q =
         record { text = lines n; octets_are = refl; out_is = refl; text_is = text_behind p.state s p.at n (Refused why r) e q }
 
-    on_room : (n : ℕ) (b : Bool) → frame_of (drop p.at s) ≡ Whole n
+    on_room : (n : ℕ) (b : Bool) → frame_of (drop p.at s) ≡ Ok n
         → Told d s p (on_listing p (4 + n)
-        (cond b (afterwards (answer_to (datagram_read (datagram_in (drop p.at s) n)) (p.out + length (lines n))) (stored d p.out (lines n))) (afterwards NoRoom d)))
+        (cond b (afterwards (Some (answer_to (datagram_read (datagram_in (drop p.at s) n)) (p.out + length (lines n)))) (stored d p.out (lines n))) (afterwards None d)))
     on_room n true e = on_head n (datagram_read (datagram_in (drop p.at s) n)) e refl
     on_room n false e = stays d s p Output
 
     on_frame_is : (f : Frame) → frame_of (drop p.at s) ≡ f → Told d s p (on_frame d (drop p.at s) p f)
-    on_frame_is Short e = stays d s p NoRecord
-    on_frame_is Wrong e = stays d s p BadRecord
-    on_frame_is (Whole n) e = on_room n (leb (p.out + room_of (datagram_read (datagram_in (drop p.at s) n))) (length d)) e
+    on_frame_is (Err Short) e = stays d s p NoRecord
+    on_frame_is (Err Wrong) e = stays d s p BadRecord
+    on_frame_is (Ok n) e = on_room n (leb (p.out + room_of (datagram_read (datagram_in (drop p.at s) n))) (length d)) e
 
 chain : (d s : List ℕ) (p q : Place) (e : List ℕ) (w : Afterwards Place) → Tells d s p q e → Told e s q w → Told d s p w
 chain d s p q e (afterwards r g) a b =

@@ -1,12 +1,12 @@
 -- A capture's records and their listing (document 01, "Listing a capture").
-use Rattle.std.specs.Prelude.{◌≡◌, ℕ, zero, suc, ◌+◌, ◌*◌, ◌%◌, ◌^◌, ◌<◌, Bool, true, false, cond, ◌↔◌, List, length, take, drop, ◌==◌, nat_le, nat_lt, slice_index}
+use Rattle.std.specs.Prelude.{◌≡◌, ℕ, zero, suc, ◌+◌, ◌*◌, ◌%◌, ◌^◌, ◌<◌, Bool, true, false, cond, ◌↔◌, List, length, take, drop, ◌==◌, nat_le, nat_lt, slice_index, Option, Some, None, Result, Ok, Err}
 use Rattle.reader.specs.Datagrams.{datagram_read}
 use Rattle.xdr.specs.Writes.{Afterwards, afterwards}
 use Rattle.record_lines.specs.Records.{room_of, list_record}
 use Rattle.record_lines.specs.declared.Listed.{Listed}
-use Rattle.record_lines.specs.declared.Listed.TheVariants.{Accepted, Refused as RefusedRecord, NoRoom}
-use Rattle.listing.specs.declared.Frame.{Frame}
-use Rattle.listing.specs.declared.Frame.TheVariants.{Whole, Short, Wrong}
+use Rattle.record_lines.specs.declared.Listed.TheVariants.{Accepted, Refused as RefusedRecord}
+use Rattle.listing.specs.declared.FrameFault.{FrameFault}
+use Rattle.listing.specs.declared.FrameFault.TheVariants.{Short, Wrong}
 use Rattle.listing.specs.declared.Stop.{Stop}
 use Rattle.listing.specs.declared.Stop.TheVariants.{GoesOn, NoRecord, Output, BadRecord}
 use Rattle.listing.specs.declared.State.{State}
@@ -18,17 +18,21 @@ use Rattle.listing.specs.declared.Place.{Place}
 abbrev pub length_in : List ℕ → ℕ
 length_in s = slice_index s 2 * 256 + slice_index s 3
 
+-- a whole record: the length of its datagram; or why there is none
+abbrev pub Frame : Type 0
+Frame = Result ℕ FrameFault
+
 -- the record that octets begin with: mark 73 46, a length of at most 65,507 in two octets, and so many octets
 unfoldable pub frame_of : List ℕ → Frame
 frame_of s =
     cond (nat_le 4 (length s))
     (cond (slice_index s 0 == 115)
     (cond (slice_index s 1 == 70)
-    (cond (nat_lt 65507 (length_in s)) Wrong
-    (cond (nat_le (4 + length_in s) (length s)) (Whole (length_in s)) Short))
-    Wrong)
-    Wrong)
-    Short
+    (cond (nat_lt 65507 (length_in s)) (Err Wrong)
+    (cond (nat_le (4 + length_in s) (length s)) (Ok (length_in s)) (Err Short)))
+    (Err Wrong))
+    (Err Wrong))
+    (Err Short)
 
 -- the datagram of a record with its length
 abbrev pub datagram_in : List ℕ → ℕ → List ℕ
@@ -52,18 +56,18 @@ abbrev pub stopped_as : Place → Stop → Place
 stopped_as p x = record { at = p.at; out = p.out; state = p.state; stop = x }
 
 -- the place behind a record that takes so many octets
-abbrev pub behind : Place → ℕ → Listed → Place
-behind p taken NoRoom = stopped_as p Output
-behind p taken (RefusedRecord out) = record { at = p.at + taken; out = out; state = count_refused p.state taken; stop = GoesOn }
-behind p taken (Accepted out n) = record { at = p.at + taken; out = out; state = count_accepted p.state taken n; stop = GoesOn }
+abbrev pub behind : Place → ℕ → Option Listed → Place
+behind p taken None = stopped_as p Output
+behind p taken (Some (RefusedRecord out)) = record { at = p.at + taken; out = out; state = count_refused p.state taken; stop = GoesOn }
+behind p taken (Some (Accepted out n)) = record { at = p.at + taken; out = out; state = count_accepted p.state taken n; stop = GoesOn }
 
-abbrev pub on_listing : Place → ℕ → Afterwards Listed → Afterwards Place
+abbrev pub on_listing : Place → ℕ → Afterwards (Option Listed) → Afterwards Place
 on_listing p taken (afterwards l d) = afterwards (behind p taken l) d
 
 abbrev pub on_frame : List ℕ → List ℕ → Place → Frame → Afterwards Place
-on_frame d s p Short = afterwards (stopped_as p NoRecord) d
-on_frame d s p Wrong = afterwards (stopped_as p BadRecord) d
-on_frame d s p (Whole n) = on_listing p (4 + n) (list_record d p.out (more p.state.records 1) (datagram_in s n))
+on_frame d s p (Err Short) = afterwards (stopped_as p NoRecord) d
+on_frame d s p (Err Wrong) = afterwards (stopped_as p BadRecord) d
+on_frame d s p (Ok n) = on_listing p (4 + n) (list_record d p.out (more p.state.records 1) (datagram_in s n))
 
 -- the record at a place of a buffer
 unfoldable pub list_step : List ℕ → List ℕ → Place → Afterwards Place
@@ -96,12 +100,12 @@ list_all d s t = list_from (length s) d s (begins t)
 -- what is left of a buffer s from a place on begins with a whole record, for whose lines an output d has no room there
 pub record NoRoomFor (d s : List ℕ) (p : Place) : Type 0 where
   pub len : ℕ
-  pub whole : frame_of (drop p.at s) ≡ Whole len
+  pub whole : frame_of (drop p.at s) ≡ Ok len
   pub no_room : length d < p.out + room_of (datagram_read (datagram_in (drop p.at s) len))
 
 -- the place where listing stopped, with the reason: it never answers that it goes on, and each reason is given exactly where it holds of what is left
 pub record StopsAt (d s : List ℕ) (p : Place) : Type 0 where
   pub over : p.stop ≡ GoesOn → ⊥
-  pub no_record : (p.stop ≡ NoRecord) ↔ (frame_of (drop p.at s) ≡ Short)
-  pub bad_record : (p.stop ≡ BadRecord) ↔ (frame_of (drop p.at s) ≡ Wrong)
+  pub no_record : (p.stop ≡ NoRecord) ↔ (frame_of (drop p.at s) ≡ Err Short)
+  pub bad_record : (p.stop ≡ BadRecord) ↔ (frame_of (drop p.at s) ≡ Err Wrong)
   pub no_room : (p.stop ≡ Output) ↔ NoRoomFor d s p

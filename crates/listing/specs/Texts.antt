@@ -1,13 +1,13 @@
 -- The whole text of a capture: a fold over its records with a state (document 01, "Listing a capture").
-use Rattle.std.specs.Prelude.{ℕ, zero, suc, ◌+◌, ◌/◌, ◌%◌, Bool, true, false, List, [], ◌∷◌, ◌++◌, length, drop}
+use Rattle.std.specs.Prelude.{ℕ, zero, suc, ◌+◌, ◌/◌, ◌%◌, Bool, true, false, List, [], ◌∷◌, ◌++◌, length, drop, Ok, Err}
 use Rattle.reader.specs.Datagrams.{datagram_read}
 use Rattle.reader.specs.declared.datagram.HeadRead.{HeadRead}
 use Rattle.reader.specs.declared.datagram.HeadRead.TheVariants.{Found, Refused}
 use Rattle.record_lines.specs.Lines.{closing_lines}
 use Rattle.record_lines.specs.Records.{record_lines}
 use Rattle.listing.specs.Captures.{frame_of, datagram_in, more, count_accepted, count_refused}
-use Rattle.listing.specs.declared.Frame.{Frame}
-use Rattle.listing.specs.declared.Frame.TheVariants.{Whole, Short, Wrong}
+use Rattle.listing.specs.Captures.{Frame}
+use Rattle.listing.specs.declared.FrameFault.TheVariants.{Short, Wrong}
 use Rattle.listing.specs.declared.State.{State}
 
 -- nothing listed so far
@@ -36,9 +36,9 @@ end_text t [] = end_lines t false
 end_text t (x ∷ s) = end_lines t true
 
 abbrev pub on_record : State → List ℕ → Frame → (State → List ℕ → List ℕ) → List ℕ
-on_record t s (Whole n) more = record_text t (datagram_in s n) ++ more (behind_record t n (datagram_in s n)) (drop (4 + n) s)
-on_record t s Short more = end_text t s
-on_record t s Wrong more = end_text t s
+on_record t s (Ok n) more = record_text t (datagram_in s n) ++ more (behind_record t n (datagram_in s n)) (drop (4 + n) s)
+on_record t s (Err Short) more = end_text t s
+on_record t s (Err Wrong) more = end_text t s
 
 -- the text of a capture's octets behind a state, with at most so many records
 unfoldable pub text_within : ℕ → State → List ℕ → List ℕ

@@ -4,54 +4,39 @@ ghost use Rattle.std.specs.Prelude.{◌≡◌, ◌+◌, ◌≤◌, length, take,
 ghost use Rattle.xdr.specs.Writes.{afterwards};
 ghost use Rattle.record_lines.specs.Lines.{write_line};
 ghost use Rattle.record_lines.specs.Records.{list_record};
-ghost use Rattle.listing.specs.declared.Frame.TheVariants.{Whole};
 ghost use Rattle.listing.specs.Captures.{frame_of, count_accepted, count_refused, stopped_as, list_step, is_over, list_all};
 ghost use Rattle.listing.specs.Texts.{end_lines, end_text};
 
 use record_lines::Listed;
 use xdr::Written;
 
-// What a part of a capture begins with.
-#[derive(Clone, Copy)]
-pub enum Frame {
-    // a whole record: the length of its datagram
-    Whole(usize),
+// Why octets do not begin with a whole record.
+#[derive(Clone, Copy, PartialEq, Eq)]
+pub enum FrameFault {
     // fewer octets than a record has
     Short,
     // a wrong mark, or a length over 65,507
     Wrong,
 }
 
-fn wide(x: u8) -> usize
-    ensures { (result ≡ x) × (result ≤ 255) }
-{
-    x as usize
-}
-
-// The record at an offset.
-pub fn frame_at(s: &[u8], at: usize) -> Frame
+// The record at an offset: the length of its datagram.
+pub fn frame_at(s: &[u8], at: usize) -> Result<usize, FrameFault>
     ensures { result ≡ frame_of (drop at s.now) }
 {
-    if s.len() < at {
-        return Frame::Short;
+    if s.len() < at || s.len() - at < 4 {
+        return Err(FrameFault::Short);
     }
-    if s.len() - at < 4 {
-        return Frame::Short;
+    if s[at] != 115 || s[at + 1] != 70 {
+        return Err(FrameFault::Wrong);
     }
-    if s[at] != 115 {
-        return Frame::Wrong;
-    }
-    if s[at + 1] != 70 {
-        return Frame::Wrong;
-    }
-    let n = wide(s[at + 2]) * 256 + wide(s[at + 3]);
+    let n = usize::from(s[at + 2]) * 256 + usize::from(s[at + 3]);
     if 65507 < n {
-        return Frame::Wrong;
+        return Err(FrameFault::Wrong);
     }
     if s.len() - at - 4 < n {
-        return Frame::Short;
+        return Err(FrameFault::Short);
     }
-    Frame::Whole(n)
+    Ok(n)
 }
 
 // What was listed so far: the octets of its records, how many records, refused ones and samples. All are modulo 2^64.
@@ -63,10 +48,10 @@ pub struct State {
     pub samples: u64,
 }
 
-// Why listing stopped, or that it goes on.
+// Why listing stopped, or that it goes on, which `list_records` is said never to answer (`StopsAt`).
 #[derive(Clone, Copy)]
 pub enum Stop {
-    // between two records: no answer of list_records
+    // between two records
     GoesOn,
     // what is left of the buffer is no whole record
     NoRecord,
@@ -88,13 +73,7 @@ pub struct Place {
 fn stopped(p: Place, stop: Stop) -> Place
     ensures { result ≡ stopped_as p stop }
 {
-    let state = p.state;
-    Place {
-        at: p.at,
-        out: p.out,
-        state,
-        stop,
-    }
+    Place { stop, ..p }
 }
 
 // The state behind an accepted record of so many octets and samples.
@@ -102,10 +81,10 @@ fn count_accepted(t: State, taken: usize, n: u32) -> State
     ensures { result ≡ count_accepted t taken n }
 {
     State {
-        offset: std::num::wrapping_add_u64(t.offset, taken as u64),
-        records: std::num::wrapping_add_u64(t.records, 1),
+        offset: t.offset.wrapping_add(taken as u64),
+        records: t.records.wrapping_add(1),
         refused: t.refused,
-        samples: std::num::wrapping_add_u64(t.samples, n as u64),
+        samples: t.samples.wrapping_add(n as u64),
     }
 }
 
@@ -114,15 +93,22 @@ fn count_refused(t: State, taken: usize) -> State
     ensures { result ≡ count_refused t taken }
 {
     State {
-        offset: std::num::wrapping_add_u64(t.offset, taken as u64),
-        records: std::num::wrapping_add_u64(t.records, 1),
-        refused: std::num::wrapping_add_u64(t.refused, 1),
+        offset: t.offset.wrapping_add(taken as u64),
+        records: t.records.wrapping_add(1),
+        refused: t.refused.wrapping_add(1),
         samples: t.samples,
     }
 }
 
 // Lists the record whose datagram is so many octets of the buffer.
-fn list_part(d: &mut [u8], at: usize, index: u64, s: &[u8], start: usize, n: usize) -> Listed
+fn list_part(
+    d: &mut [u8],
+    at: usize,
+    index: u64,
+    s: &[u8],
+    start: usize,
+    n: usize,
+) -> Option<Listed>
     requires { start + n ≤ length s.now }
     ensures { afterwards result d.new ≡ list_record d.old at index (take n (drop start s.now)) }
 {
@@ -131,20 +117,20 @@ fn list_part(d: &mut [u8], at: usize, index: u64, s: &[u8], start: usize, n: usi
 
 // The place behind a whole record.
 fn list_whole(d: &mut [u8], s: &[u8], p: Place, n: usize) -> Place
-    requires { (frame_of (drop p.at s.now) ≡ Whole n) × (p.at + 4 + n ≤ length s.now) }
+    requires { (frame_of (drop p.at s.now) ≡ Ok n) × (p.at + 4 + n ≤ length s.now) }
     ensures { afterwards result d.new ≡ list_step d.old s.now p }
 {
-    let index = std::num::wrapping_add_u64(p.state.records, 1);
+    let index = p.state.records.wrapping_add(1);
     let state = p.state;
     match list_part(d, p.out, index, s, p.at + 4, n) {
-        Listed::NoRoom => stopped(p, Stop::Output),
-        Listed::Refused(out) => Place {
+        None => stopped(p, Stop::Output),
+        Some(Listed::Refused(out)) => Place {
             at: p.at + (4 + n),
             out,
             state: count_refused(state, 4 + n),
             stop: Stop::GoesOn,
         },
-        Listed::Accepted(out, count) => Place {
+        Some(Listed::Accepted(out, count)) => Place {
             at: p.at + (4 + n),
             out,
             state: count_accepted(state, 4 + n, count),
@@ -158,21 +144,16 @@ fn step(d: &mut [u8], s: &[u8], p: Place) -> Place
     ensures { afterwards result d.new ≡ list_step d.old s.now p }
 {
     match frame_at(s, p.at) {
-        Frame::Short => stopped(p, Stop::NoRecord),
-        Frame::Wrong => stopped(p, Stop::BadRecord),
-        Frame::Whole(n) => list_whole(d, s, p, n),
+        Err(FrameFault::Short) => stopped(p, Stop::NoRecord),
+        Err(FrameFault::Wrong) => stopped(p, Stop::BadRecord),
+        Ok(n) => list_whole(d, s, p, n),
     }
 }
 
 fn is_over(stop: Stop) -> bool
     ensures { result ≡ is_over stop }
 {
-    match stop {
-        Stop::GoesOn => false,
-        Stop::NoRecord => true,
-        Stop::Output => true,
-        Stop::BadRecord => true,
-    }
+    !matches!(stop, Stop::GoesOn)
 }
 
 // Lists all whole records of a buffer, as far as the output has room.
@@ -185,14 +166,11 @@ pub fn list_records(d: &mut [u8], s: &[u8], begin: State) -> Place
         state: begin,
         stop: Stop::GoesOn,
     };
-    let mut turns = s.len();
-    while 0 < turns {
+    for _ in 0..s.len() {
         p = step(d, s, p);
-        let stop = p.stop;
-        if is_over(stop) {
+        if is_over(p.stop) {
             return p;
         }
-        turns -= 1;
     }
     stopped(p, Stop::NoRecord)
 }

@@ -1,6 +1,6 @@
 -- Laws of a number's digits. Assumes nothing.
 use Prim.Native.Nat.{ℕ, zero, suc, ◌+◌, ◌-◌, ◌/◌, ◌%◌, ◌^◌, ◌≤◌, ◌<◌}
-use native.Mathlib.Nat.{not-suc-le-zero, pow-suc, mul_comm, div-div-eq-div-mul}
+use native.Mathlib.Nat.{not-suc-le-zero, pow-suc}
 use native.Mathlib.Omega.{arith}
 use mathlib.Core.Path.{◌≡◌, refl, sym, ap, ◌∙◌}
 use mathlib.Core.List.{List, [], ◌∷◌, ◌++◌, append_assoc}
@@ -48,21 +48,6 @@ broad (suc i) (suc f) n h l m =
     let o = one_at_least i in
     one_more (suc i) f n (omega arith) (broad i f (n / 10) (omega arith) (omega arith) (omega arith))
 
--- j digits more than what is left of a number without its last j
-pub behind : (j k f n : ℕ) → 10 ^ j ≤ n → last_digits 10 k (n / 10 ^ j) ≡ shown f (n / 10 ^ j) → last_digits 10 (j + k) n ≡ shown (j + f) n
-behind zero k f n h e =
-    let q : n / 10 ^ 0 ≡ n = omega arith in
-    let a : 0 + k ≡ k = omega arith in
-    let b : 0 + f ≡ f = omega arith in
-    rw (a, b, sym q) e
-behind (suc j) k f n h e =
-    let p = pow-suc 10 j in
-    let o = one_at_least j in
-    let q : n / 10 ^ suc j ≡ n / 10 / 10 ^ j = rw (p, mul_comm (10 ^ j) 10) (sym (div-div-eq-div-mul n 10 (10 ^ j))) in
-    let a : suc j + k ≡ suc (j + k) = omega arith in
-    let b : suc j + f ≡ suc (j + f) = omega arith in
-    rw (a, b) (one_more (j + k) (j + f) n (omega arith) (behind j k f (n / 10) (omega arith) (rw (sym q) e)))
-
 -- ---- digits stored, the last one first
 
 -- a store in front of what was stored last
@@ -98,7 +83,3 @@ spell_next b d at i r g h m e =
 pub spell_end : (b : ℕ) (d : List ℕ) (at i r : ℕ) → i ≤ 0 → d ≡ stored d at (last_digits b i r)
 spell_end b d at zero r h = sym (ap (stored d at) (last_none b r) ∙ stored_none d at)
 spell_end b d at (suc i) r h = absurd (not-suc-le-zero h)
-
--- the character of a decimal digit
-pub ten : (r : ℕ) → 48 + r % 10 ≡ digit (r % 10)
-ten r = let h : r % 10 < 10 = omega arith in rw (lt-ltb _ _ h)

@@ -5,6 +5,7 @@ use native.Mathlib.Omega.{arith}
 use mathlib.Core.Path.{◌≡◌, refl, sym}
 use mathlib.Core.Bool.{Bool, true, false, cond}
 use mathlib.Core.List.{List, [], ◌∷◌, ◌++◌}
+use Rattle.std.proofs.Common.{Some, None}
 use lib.ListN.{length}
 use lib.Dec.{ltb}
 use borrow.Author.Tests.{le-leb, lt-leb}
@@ -25,7 +26,7 @@ use Rattle.reader.specs.declared.datagram.HeadRead.TheVariants.{Found, Refused}
 use Rattle.reader.specs.Datagrams.{step_at, walk, walk_on, datagram_read}
 use Rattle.record_lines.specs.Lines.{Puts, sample_line, sample_lines, refused_line}
 use Rattle.record_lines.specs.Records.{lines_of, record_lines, room_of, answer_to, list_record}
-use Rattle.record_lines.specs.declared.Listed.TheVariants.{Refused as RefusedRecord, NoRoom}
+use Rattle.record_lines.specs.declared.Listed.TheVariants.{Refused as RefusedRecord}
 use Rattle.record_lines.proofs.Puts.{then, puts_none, puts_as}
 
 -- ---- lines one behind the other
@@ -76,22 +77,22 @@ walked_over s (suc left) at (Stopped why p) h e o = rw (sym e)
 -- ---- a record
 
 pub lists : (d e : List ℕ) (at n r : ℕ) (s : List ℕ) (a : HeadRead)
-    → datagram_read s ≡ a → Puts d at (lines_of n s a) r e → at + room_of a ≤ length d → afterwards (answer_to a r) e ≡ list_record d at n s
+    → datagram_read s ≡ a → Puts d at (lines_of n s a) r e → at + room_of a ≤ length d → afterwards (Some (answer_to a r)) e ≡ list_record d at n s
 unfolding list_record record_lines
 lists d e at n r s a q p h = rw (q, le-leb _ _ h, p.next_is, p.octets_are)
 
-pub no_room : (d : List ℕ) (at n : ℕ) (s : List ℕ) (a : HeadRead) → datagram_read s ≡ a → length d < at + room_of a → afterwards NoRoom d ≡ list_record d at n s
+pub no_room : (d : List ℕ) (at n : ℕ) (s : List ℕ) (a : HeadRead) → datagram_read s ≡ a → length d < at + room_of a → afterwards None d ≡ list_record d at n s
 unfolding list_record
 no_room d at n s a q h = rw (q, lt-leb _ _ h)
 
 -- every record asks for this room
-pub no_room_at_all : (d : List ℕ) (at n : ℕ) (s : List ℕ) → length d < at + 164 → afterwards NoRoom d ≡ list_record d at n s
+pub no_room_at_all : (d : List ℕ) (at n : ℕ) (s : List ℕ) → length d < at + 164 → afterwards None d ≡ list_record d at n s
 no_room_at_all d at n s h = go (datagram_read s) refl
   where
-    go : (a : HeadRead) → datagram_read s ≡ a → afterwards NoRoom d ≡ list_record d at n s
+    go : (a : HeadRead) → datagram_read s ≡ a → afterwards None d ≡ list_record d at n s
     go (Found g) q = no_room d at n s (Found g) q (omega arith)
     go (Refused why p) q = no_room d at n s (Refused why p) q h
 
 pub lists_refused : (d e : List ℕ) (at n r : ℕ) (s : List ℕ) (why : Refusal) (p num : ℕ) → datagram_read s ≡ Refused why p → num ≡ refusal_number why
-    → Puts d at (refused_line n num p) r e → at + 164 ≤ length d → afterwards (RefusedRecord r) e ≡ list_record d at n s
+    → Puts d at (refused_line n num p) r e → at + 164 ≤ length d → afterwards (Some (RefusedRecord r)) e ≡ list_record d at n s
 lists_refused d e at n r s why p num q m x h = lists d e at n r s (Refused why p) q (rw (sym m) x) h

@@ -18,6 +18,7 @@ use Rattle.sflow.specs.Reading.{read_datagram}
 use Rattle.sflow.proofs.Items.{each_length}
 use Rattle.sflow.proofs.Theorems.{accepted_exactly, accepted_to_end}
 use Rattle.reader.specs.Datagrams.{datagram_of, as_head, datagram_read}
+use Rattle.std.proofs.Common.{Some}
 use Rattle.record_lines.specs.Records.{record_lines, room_of, answer_to, list_record}
 
 -- every arm's items take so many octets
@@ -85,7 +86,7 @@ room_enough s o = go (read_datagram s) refl
 
 -- an output with so much room takes every record's lines
 pub takes_every : (d : List ℕ) (at n : ℕ) (s : List ℕ) → Octets s → at + 222796 ≤ length d
-    → list_record d at n s ≡ afterwards (answer_to (datagram_read s) (at + length (record_lines n s))) (stored d at (record_lines n s))
+    → list_record d at n s ≡ afterwards (Some (answer_to (datagram_read s) (at + length (record_lines n s)))) (stored d at (record_lines n s))
 unfolding list_record
 takes_every d at n s o h =
     let r = room_enough s o in

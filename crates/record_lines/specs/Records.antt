@@ -1,5 +1,5 @@
 -- The lines of one record (document 01, "Listing a capture").
-use Rattle.std.specs.Prelude.{ℕ, ◌+◌, ◌*◌, List, ◌++◌, length, leb}
+use Rattle.std.specs.Prelude.{ℕ, ◌+◌, ◌*◌, List, ◌++◌, length, leb, Option, Some, None}
 use Rattle.xdr.specs.Writes.{Afterwards, store_if}
 use Rattle.sflow.specs.Refusals.{refusal_number}
 use Rattle.reader.specs.declared.datagram.HeadRead.{HeadRead}
@@ -7,7 +7,7 @@ use Rattle.reader.specs.declared.datagram.HeadRead.TheVariants.{Found, Refused}
 use Rattle.reader.specs.Datagrams.{datagram_read, walk}
 use Rattle.record_lines.specs.Lines.{sample_lines, agent_line, refused_line}
 use Rattle.record_lines.specs.declared.Listed.{Listed}
-use Rattle.record_lines.specs.declared.Listed.TheVariants.{Accepted, Refused as RefusedRecord, NoRoom}
+use Rattle.record_lines.specs.declared.Listed.TheVariants.{Accepted, Refused as RefusedRecord}
 
 -- the lines of a record with its number: the first line and one for each sample, or the line of the refusal
 abbrev pub lines_of : ℕ → List ℕ → HeadRead → List ℕ
@@ -28,6 +28,6 @@ answer_to (Found h) next = Accepted next h.samples.count
 answer_to (Refused why p) next = RefusedRecord next
 
 -- a record's lines put into an output at an offset, or the output as it was
-unfoldable pub list_record : List ℕ → ℕ → ℕ → List ℕ → Afterwards Listed
+unfoldable pub list_record : List ℕ → ℕ → ℕ → List ℕ → Afterwards (Option Listed)
 list_record d at number s =
-    store_if (leb (at + room_of (datagram_read s)) (length d)) (answer_to (datagram_read s) (at + length (record_lines number s))) NoRoom d at (record_lines number s)
+    store_if (leb (at + room_of (datagram_read s)) (length d)) (Some (answer_to (datagram_read s) (at + length (record_lines number s)))) None d at (record_lines number s)

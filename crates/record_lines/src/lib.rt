@@ -30,89 +30,28 @@ use reader::sample::{Sample, SampleValues};
 use xdr::Written;
 
 // Puts octets at an offset and answers the offset behind them.
+// A buffer and an offset stay two parameters, here and below: a struct that holds both needs in each contract one clause more, that it holds the same lent buffer.
 fn put(d: &mut [u8], at: usize, s: &[u8]) -> usize
     requires { at + length s.now ≤ length d.old }
     ensures { Puts d.old at s.now result d.new }
 {
-    let mut i = 0;
-    while i < s.len() {
-        d[at + i] = s[i];
-        i += 1;
-    }
-    at + s.len()
-}
-
-// How many decimal digits a number has that is below 10^10.
-fn narrow_width(n: u64) -> usize
-    requires { n < 10000000000 }
-    ensures { ((f : ℕ) → 10 ≤ f → last_digits 10 result n ≡ shown f n) × (result ≤ 10) }
-{
-    if n < 10 {
-        return 1;
-    }
-    if n < 100 {
-        return 2;
-    }
-    if n < 1000 {
-        return 3;
-    }
-    if n < 10000 {
-        return 4;
-    }
-    if n < 100000 {
-        return 5;
-    }
-    if n < 1000000 {
-        return 6;
-    }
-    if n < 10000000 {
-        return 7;
-    }
-    if n < 100000000 {
-        return 8;
-    }
-    if n < 1000000000 {
-        return 9;
-    }
-    10
+    let next = at + s.len();
+    d[at..next].copy_from_slice(s);
+    next
 }
 
 // How many decimal digits a number has.
 fn width(n: u64) -> usize
     ensures { (last_digits 10 result n ≡ decimal n) × (result ≤ 20) }
 {
-    if n < 10000000000 {
-        return narrow_width(n);
-    }
-    10 + narrow_width(n / 10000000000)
-}
-
-// The last so many decimal digits of a number, the last one first.
-fn spell(d: &mut [u8], at: usize, n: u64, k: usize)
-    requires { at + k ≤ length d.old }
-    ensures { d.new ≡ stored d.old at (last_digits 10 k n) }
-{
-    let mut i = k;
-    let mut rest = n;
-    while 0 < i {
-        i -= 1;
-        d[at + i] = 48 + (rest % 10) as u8;
-        rest /= 10;
+    match n.checked_ilog10() {
+        None => 1,
+        Some(power) => power as usize + 1,
     }
 }
 
-// A number in decimal digits.
-fn number(d: &mut [u8], at: usize, n: u64) -> usize
-    requires { at + 20 ≤ length d.old }
-    ensures { Puts d.old at (decimal n) result d.new × (result ≤ at + 20) }
-{
-    let k = width(n);
-    spell(d, at, n, k);
-    at + k
-}
-
-// The character of a hexadecimal digit.
-fn hex_digit(n: u32) -> u8
+// The character of a digit.
+fn digit(n: u64) -> u8
     requires { n ≤ 15 }
     ensures { result ≡ digit n }
 {
@@ -122,18 +61,35 @@ fn hex_digit(n: u32) -> u8
     87 + n as u8
 }
 
-// A word in eight hexadecimal digits, the last one first.
+// The last so many digits of a number in a base, the last one first.
+fn spell<const BASE: u64>(d: &mut [u8], at: usize, n: u64, k: usize)
+    requires base { (0 < BASE) × (BASE ≤ 16) }
+    requires room { at + k ≤ length d.old }
+    ensures { d.new ≡ stored d.old at (last_digits BASE k n) }
+{
+    let mut rest = n;
+    for i in (0..k).rev() {
+        d[at + i] = digit(rest % BASE);
+        rest /= BASE;
+    }
+}
+
+// A number in decimal digits.
+fn number(d: &mut [u8], at: usize, n: u64) -> usize
+    requires { at + 20 ≤ length d.old }
+    ensures { Puts d.old at (decimal n) result d.new × (result ≤ at + 20) }
+{
+    let k = width(n);
+    spell::<10>(d, at, n, k);
+    at + k
+}
+
+// A word in eight hexadecimal digits.
 fn hex_word(d: &mut [u8], at: usize, n: u32) -> usize
     requires { at + 8 ≤ length d.old }
     ensures { Puts d.old at (hexadecimal n) result d.new × (result ≤ at + 8) }
 {
-    let mut i: usize = 8;
-    let mut rest = n;
-    while 0 < i {
-        i -= 1;
-        d[at + i] = hex_digit(rest % 16);
-        rest /= 16;
-    }
+    spell::<16>(d, at, u64::from(n), 8);
     at + 8
 }
 
@@ -320,6 +276,7 @@ fn closing_text(
 }
 
 // What follows the last record: where the capture goes wrong there, the line that says so with its offset, then the last line; 123 octets of room are asked for.
+// The flag and the numbers stand apart, as C hands them to the function above this one.
 pub fn closing_lines(
     d: &mut [u8],
     at: usize,
@@ -347,15 +304,16 @@ fn sample_lines(d: &mut [u8], at: usize, s: &[u8], first: usize, count: u32) -> 
 {
     let mut out = at;
     let mut place = first;
-    let mut left = count;
-    while 0 < left {
-        let step = reader::datagram::next_sample(s, Cursor { at: place, left });
-        let Step::Found(sample, behind) = step else {
+    for more in (0..count).rev() {
+        let cursor = Cursor {
+            at: place,
+            left: more + 1,
+        };
+        let Step::Found(sample, behind) = reader::datagram::next_sample(s, cursor) else {
             return out;
         };
         out = sample_line(d, out, sample);
         place = behind.at;
-        left -= 1;
     }
     out
 }
@@ -367,32 +325,30 @@ pub enum Listed {
     Accepted(usize, u32),
     // a refused record: the offset behind its line
     Refused(usize),
-    // the room may be too short, and nothing was written
-    NoRoom,
 }
 
-// Lists a record's datagram at an offset of the output, with the record's number.
-pub fn list_record(d: &mut [u8], at: usize, index: u64, s: &[u8]) -> Listed
+// Lists a record's datagram at an offset of the output, with the record's number; none where the room may be too short, and then nothing is written.
+pub fn list_record(d: &mut [u8], at: usize, index: u64, s: &[u8]) -> Option<Listed>
     ensures { afterwards result d.new ≡ list_record d.old at index s.now }
 {
     if d.len() < at {
-        return Listed::NoRoom;
+        return None;
     }
     if d.len() - at < 164 {
-        return Listed::NoRoom;
+        return None;
     }
     match reader::datagram::read(s) {
         HeadRead::Refused(why, p) => {
             let n = sflow::refusal_number(why);
-            Listed::Refused(refused_line(d, at, index, n, p))
+            Some(Listed::Refused(refused_line(d, at, index, n, p)))
         }
         HeadRead::Found(head) => {
             let count = head.samples.count;
             if (d.len() - at - 164) / 136 < count as usize {
-                return Listed::NoRoom;
+                return None;
             }
             let next = agent_line(d, at, index, head, s.len());
-            Listed::Accepted(sample_lines(d, next, s, head.samples.at, count), count)
+            Some(Listed::Accepted(sample_lines(d, next, s, head.samples.at, count), count))
         }
     }
 }

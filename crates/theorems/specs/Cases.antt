@@ -17,9 +17,7 @@ use Rattle.rules.specs.Checks.{CheckAnswer, accepted, check_number, check}
 use Rattle.engine.specs.Results.{EngineAnswer, engine_number, rule_named, rules_in, key_in, zero_key, engine_of}
 use Rattle.ledger.specs.declared.FlowEntry.{FlowEntry}
 use Rattle.ledger.specs.declared.Row.{Row}
-use Rattle.ledger.specs.declared.EntryAnswer.TheVariants.{Entered}
-use Rattle.ledger.specs.declared.TableEntered.{TableEntered}
-use Rattle.ledger.specs.Ledger.{free_row, entered}
+use Rattle.ledger.specs.Ledger.{TableEntered, free_row, entered}
 use Rattle.theorems.specs.Inputs.{
   no_samples,
   one_sample,
@@ -106,7 +104,7 @@ Holds (appends n number size) = ((after_appends n).number ≡ number) × ((after
 Holds (runs s number rules) = (check s ≡ accepted) × Gives (engine_of s flow_sample) number 0 rules
 Holds (breaks s number rule) = Breaks (check s) number rule × Gives (engine_of s flow_sample) number rule 0
 Holds (enters x y pool lost) =
-    ((first x).answer ≡ Entered) × ((second x y).answer ≡ Entered) × ((row_after x y).pool_total ≡ pool) × ((row_after x y).lost_total ≡ lost)
+    ((first x).answer ≡ Ok tt) × ((second x y).answer ≡ Ok tt) × ((row_after x y).pool_total ≡ pool) × ((row_after x y).lost_total ≡ lost)
 
 abbrev pub AllHold : List Case → Type 0
 AllHold [] = Unit {0}

@@ -1,5 +1,5 @@
 -- The three demands, each with its sentence.
-use Rattle.std.specs.Prelude.{ℕ, ◌+◌, ◌≤◌, ◌<◌, ◌≡◌, ◌↔◌, ◌⊎◌, ◌≢◌, true, false, length, get_or, Ok}
+use Rattle.std.specs.Prelude.{ℕ, ◌+◌, ◌≤◌, ◌<◌, ◌≡◌, ◌↔◌, ◌⊎◌, ◌≢◌, Ok, Err, true, false, length, get_or}
 use mathlib.Core.List.{List, flat_map}
 use Rattle.std.proofs.Math.Option.{Option, some}
 use Rattle.xdr.specs.Numbers.{Octets}
@@ -17,7 +17,7 @@ use Rattle.rewriting.specs.Rewriting.{rewritten, Stopped}
 use Rattle.rewriting.specs.Calls.{rewritten_by_calls, StoppedByCalls}
 use Rattle.ledger.specs.declared.FlowEntry.{FlowEntry}
 use Rattle.ledger.specs.declared.Row.{Row}
-use Rattle.ledger.specs.declared.EntryAnswer.TheVariants.{Entered, TableFull, OtherSource}
+use Rattle.ledger.specs.declared.EntryRefusal.TheVariants.{TableFull, OtherSource}
 use Rattle.ledger.specs.Ledger.{Source, source_of, answered, opened, updated, row_for, free_row, with_row, entered}
 use Rattle.ledger.specs.Runs.{Lowest, Grown, AllOthers, NoRow, NoSample, FirstOf}
 use Rattle.packet.specs.Attributes.{attributes_of, attribute}
@@ -144,15 +144,15 @@ pub record Demand2 : Type 0 where
   pub never_more_by_calls : (s : List ℕ) → Octets s → (v : Value sample_datagram) → read_datagram s ≡ found v (length s)
       → (limit : ℕ) (d : List ℕ) → limit_allowed limit (length d) ≡ true → limit < length s → StoppedByCalls s v limit d
   -- a free row opens with the sample's numbers and totals of 0
-  pub opens : (row : Row) (x : FlowEntry) → row.used ≡ false → updated row x ≡ answered Entered (opened x)
+  pub opens : (row : Row) (x : FlowEntry) → row.used ≡ false → updated row x ≡ answered (Ok tt) (opened x)
   -- in a table a sample goes to its source's lowest row, or else to the lowest free one, by the rules of one row
   pub by_row : (rows : List Row) (x : FlowEntry) → row_for x rows < length rows
       → entered rows x ≡ with_row rows (row_for x rows) (updated (get_or rows (row_for x rows) free_row) x)
   -- 40 exactly where every row belongs to another source; 43 is for a lent row alone
-  pub full_exactly : (rows : List Row) (x : FlowEntry) → ((entered rows x).answer ≡ TableFull) ↔ AllOthers rows x
-  pub never_other : (rows : List Row) (x : FlowEntry) → (entered rows x).answer ≡ OtherSource → ⊥
+  pub full_exactly : (rows : List Row) (x : FlowEntry) → ((entered rows x).answer ≡ Err TableFull) ↔ AllOthers rows x
+  pub never_other : (rows : List Row) (x : FlowEntry) → (entered rows x).answer ≡ Err OtherSource → ⊥
   -- a refusal changes no row; every row but the sample's own stays
-  pub refusal_keeps : (rows : List Row) (x : FlowEntry) → ((entered rows x).answer ≡ Entered) ⊎ ((entered rows x).rows ≡ rows)
+  pub refusal_keeps : (rows : List Row) (x : FlowEntry) → ((entered rows x).answer ≡ Ok tt) ⊎ ((entered rows x).rows ≡ rows)
   pub others_stay : (rows : List Row) (x : FlowEntry) (j : ℕ) → j ≢ row_for x rows → get_or (entered rows x).rows j free_row ≡ get_or rows j free_row
   -- over any run of samples on any table, the totals of a source's lowest row grow by the sums over its accepted later samples
   pub totals : (s : Source) (xs : List FlowEntry) (rows : List Row) (i : ℕ) → Lowest s rows i → Grown s rows i xs

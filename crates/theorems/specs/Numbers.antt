@@ -25,13 +25,11 @@ use Rattle.form_writer.specs.Parts.{write_given}
 use Rattle.writer.specs.Datagrams.{started, appended}
 use Rattle.ledger.specs.declared.FlowEntry.{FlowEntry}
 use Rattle.ledger.specs.declared.Row.{Row}
-use Rattle.ledger.specs.declared.EntryAnswer.{EntryAnswer}
-use Rattle.ledger.specs.declared.TableEntered.{TableEntered}
-use Rattle.ledger.specs.Ledger.{entry_number, updated, entered}
+use Rattle.ledger.specs.Ledger.{EntryAnswer, TableEntered, entry_number, updated, entered}
 use Rattle.rules.specs.Checks.{CheckAnswer, check}
 use Rattle.engine.specs.Results.{EngineAnswer, engine_of}
 use Rattle.record_lines.specs.Lines.{write_line}
-use Rattle.listing.specs.declared.Frame.{Frame}
+use Rattle.listing.specs.Captures.{Frame}
 use Rattle.listing.specs.declared.State.{State}
 use Rattle.listing.specs.declared.Place.{Place}
 use Rattle.listing.specs.Captures.{frame_of, list_all}

@@ -1,11 +1,11 @@
-use Rattle.ledger.proofs.Sources.{other_id, address_tells}
-use Rattle.std.proofs.Common.{◌∙◌}
+use Rattle.std.proofs.Common.{rules}
+use Rattle.ledger.specs.Ledger.{same_source}
 use Rattle.ledger.proofs.same_source.Goals as goal
 
-pub returns-then-row-words : goal.returns-then-row-words
-returns-then-row-words c =
-    other_id c.args.row c.args.x c.if-row-words.true
+pub returns-then-row-x : goal.returns-then-row-x
+unfolding same_source
+returns-then-row-x c = search rules
 
-pub returns : goal.returns
-returns c =
-    c.same_address.ensures ∙ address_tells c.args.row c.args.x c.if-row-words.false
+pub returns-else-row-x : goal.returns-else-row-x
+unfolding same_source
+returns-else-row-x c = search rules

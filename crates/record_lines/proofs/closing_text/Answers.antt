@@ -5,6 +5,3 @@ use Rattle.record_lines.proofs.closing_text.Goals as goal
 pub returns-then-bad : goal.returns-then-bad
 returns-then-bad c =
     rw c.if-bad.true (then c.bad_text-next.ensures.0 c.last_text.ensures.0 (search rules))
-
-pub returns : goal.returns
-returns c = rw c.if-bad.false c.last_text-2.ensures.0

@@ -1,34 +1,37 @@
 use borrow.Author.Rules.{rules}
 use native.Mathlib.Omega.{arith}
-use mathlib.Core.Path.{refl, sym, ◌∙◌}
+use Prim.Native.Nat.{◌+◌, ◌-◌}
+use mathlib.Core.Path.{◌≡◌, refl, sym, ◌∙◌}
 use Rattle.record_lines.proofs.Records.{leaves_next, leaves_end, walked_end, walked_more, walked_over}
 use borrow.Enum.Refused.{opened}
 use Rattle.record_lines.proofs.sample_lines.Goals as goal
 
-pub loop-left-init : goal.loop-left-init
-loop-left-init c = (search rules, refl, λ r e h p. p)
+pub loop-more-init : goal.loop-more-init
+loop-more-init c = (search rules, refl, λ r e h p. p)
 
 pub shape_of-d-in_default : goal.shape_of-d-in_default
-shape_of-d-in_default c = c.loop-left.invariant.1
+shape_of-d-in_default c = c.loop-more.invariant.1
 
 pub returns-in_default : goal.returns-in_default
-returns-in_default c = (
-  leaves_end _ _ _ _ _ _ c.loop-left.invariant.2
-      (walked_over _ _ _ _ c.loop-left-test.true c.next_sample-step.ensures (opened c.in_default.in_default-own.keys2)) (omega arith),
-  omega arith,
-)
+returns-in_default c =
+    let left : c.loop-more.more - 1 + 1 ≡ c.loop-more.more = omega arith in (
+      leaves_end _ _ _ _ _ _ c.loop-more.invariant.2
+          (walked_over _ _ _ _ c.loop-more-test.true (rw left at c.next_sample.ensures) (opened c.in_default.in_default-own.keys2)) (omega arith),
+      omega arith,
+    )
 
-pub loop-left-preserved : goal.loop-left-preserved
-loop-left-preserved c =
-    let l = c.loop-left.invariant in
-    let found = sym c.next_sample-step.ensures ∙ c.in-Found.is in (
+pub loop-more-preserved : goal.loop-more-preserved
+loop-more-preserved c =
+    let l = c.loop-more.invariant in
+    let left : c.loop-more.more - 1 + 1 ≡ c.loop-more.more = omega arith in
+    let found = rw left at (sym c.next_sample.ensures ∙ c.in-Found.is) in (
       omega arith,
       omega arith,
-      leaves_next _ _ _ _ _ _ _ _ _ _ l.1 l.2 (walked_more _ _ _ _ _ c.loop-left-test.true found) c.sample_line-out.ensures.0,
+      leaves_next _ _ _ _ _ _ _ _ _ _ l.1 l.2 (walked_more _ _ _ _ _ c.loop-more-test.true found) c.sample_line-out.ensures.0,
     )
 
 pub shape_of-d : goal.shape_of-d
-shape_of-d c = c.loop-left.invariant.1
+shape_of-d c = c.loop-more.invariant.1
 
 pub returns : goal.returns
-returns c = (leaves_end _ _ _ _ _ _ c.loop-left.invariant.2 (walked_end _ _ _ c.loop-left-test.false) (omega arith), omega arith)
+returns c = (leaves_end _ _ _ _ _ _ c.loop-more.invariant.2 (walked_end _ _ _ c.loop-more-test.false) (omega arith), omega arith)

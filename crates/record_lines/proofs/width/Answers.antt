@@ -1,12 +1,18 @@
-use borrow.Author.Rules.{rules}
+use Rattle.std.proofs.Common.{add-one, arith}
+use native.Mathlib.Nat.{pow-suc}
 use Rattle.record_lines.specs.Digits.{decimal}
-use Rattle.record_lines.proofs.Digits.{behind}
+use Rattle.record_lines.proofs.Digits.{narrow, broad}
 use Rattle.record_lines.proofs.width.Goals as goal
 
-pub returns-then-n-lt10000000000 : goal.returns-then-n-lt10000000000
+pub returns-in-None : goal.returns-in-None
 unfolding decimal
-returns-then-n-lt10000000000 c = (c.narrow_width.ensures.0 20 (search rules), search rules)
+returns-in-None c = (narrow 20 _ (omega arith) (omega (arith, c.in-None.ensures.none)), omega arith)
 
-pub returns : goal.returns
+pub returns-in-Some : goal.returns-in-Some
 unfolding decimal
-returns c = (behind 10 _ 10 _ c.if-n-lt10000000000.false (c.narrow_width-2.ensures.0 10 (search rules)), search rules)
+returns-in-Some c =
+    let e = pow-suc 10 c.in-Some.power in
+    let next = c.in-Some.ensures.next_power_gt in
+    let low = c.in-Some.ensures.power_le in
+    let few = c.in-Some.ensures.bound in
+    (rw add-one (broad c.in-Some.power 20 c.args.n (omega arith) low (omega arith)), omega arith)
