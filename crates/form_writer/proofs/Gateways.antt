@@ -4,14 +4,15 @@ use mathlib.Core.Path.{◌≡◌}
 use mathlib.Core.List.{List, [], ◌∷◌}
 use mathlib.Core.Option.{none, some}
 use lib.ListN.{length}
+use Rattle.std.specs.Prelude.{Result, Err}
 use Rattle.xdr.specs.Numbers.{Octets}
 use Rattle.xdr.specs.Writes.{afterwards}
 use Rattle.sflow.specs.Grammar.{Value}
 use Rattle.sflow.specs.Decode.{entries_in}
 use Rattle.sflow.specs.Datagram.{as_path_type, extended_data_type}
 use Rattle.sflow.proofs.Exact.{entries_in_exactly}
-use Rattle.form_writer.specs.declared.parts.WriteAnswer.{WriteAnswer}
-use Rattle.form_writer.specs.declared.parts.WriteAnswer.TheVariants.{BadValue}
+use Rattle.form_writer.specs.declared.parts.WriteRefusal.{WriteRefusal}
+use Rattle.form_writer.specs.declared.parts.WriteRefusal.TheVariants.{BadValue}
 use Rattle.form_writer.specs.Parts.{write_alone, write_given, parts_octets}
 use Rattle.form_writer.specs.Values.{gateway_value, gateway_given}
 use Rattle.form_writer.proofs.Allowances.{not_allowed, given_written}
@@ -21,7 +22,7 @@ use Rattle.form_writer.proofs.PathOctets.{gateway_octets, gateway_valid, communi
 module _ (router src peer count : ℕ) (path communities : List ℕ) (preference : ℕ) where
   -- the octets are not exactly so many segments
   pub no_path : (d : List ℕ) → entries_in as_path_type count path ≡ none
-      → afterwards BadValue d ≡ write_given extended_data_type (gateway_given router src peer count path communities preference) d
+      → afterwards (Err BadValue) d ≡ write_given extended_data_type (gateway_given router src peer count path communities preference) d
   no_path d e = rw e
 
   module _ (vs : List (Value as_path_type)) where
@@ -31,12 +32,12 @@ module _ (router src peer count : ℕ) (path communities : List ℕ) (preference
 
     -- they are, and the communities are more than a word counts
     pub gateway_refused : (d : List ℕ) → entries_in as_path_type count path ≡ some vs → 4294967295 < length communities
-        → afterwards BadValue d ≡ write_given extended_data_type (gateway_given router src peer count path communities preference) d
+        → afterwards (Err BadValue) d ≡ write_given extended_data_type (gateway_given router src peer count path communities preference) d
     gateway_refused d e l =
         rw (given e) (not_allowed extended_data_type (gateway_value router src peer vs communities preference) d (communities_many router src peer communities preference vs l))
 
     -- all is as it should be
-    pub gateway_written : (d e : List ℕ) (r : WriteAnswer) → router < 2 ^ 32 → src < 2 ^ 32 → peer < 2 ^ 32 → count < 2 ^ 32 → Octets path
+    pub gateway_written : (d e : List ℕ) (r : Result ℕ WriteRefusal) → router < 2 ^ 32 → src < 2 ^ 32 → peer < 2 ^ 32 → count < 2 ^ 32 → Octets path
         → Words communities → preference < 2 ^ 32 → length communities ≤ 4294967295 → entries_in as_path_type count path ≡ some vs
         → afterwards r e
         ≡ write_alone (parts_octets (3 ∷ router ∷ src ∷ peer ∷ count ∷ []) path (length communities ∷ []) communities [] (preference ∷ [])) d

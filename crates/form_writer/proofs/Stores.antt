@@ -5,22 +5,23 @@ use mathlib.Core.Path.{◌≡◌, ap, ◌∙◌}
 use mathlib.Core.List.{List, ◌++◌, append_assoc}
 use lib.ListN.{length, length-append}
 use borrow.Author.Tests.{le-leb, lt-leb}
+use Rattle.std.specs.Prelude.{Ok, Err}
 use Rattle.xdr.specs.Numbers.{octets_of}
 use Rattle.xdr.specs.Items.{padded}
 use Rattle.xdr.specs.Writes.{stored, padded_octets, write_at, afterwards}
 use Rattle.xdr.specs.declared.Written.{Written}
 use Rattle.xdr.proofs.Octets.{octets_length}
 use Rattle.xdr.proofs.Writing.{stored_next, stored_length, padded_length, wrote_fits}
-use Rattle.form_writer.specs.declared.parts.WriteAnswer.TheVariants.{Done, NoRoom}
+use Rattle.form_writer.specs.declared.parts.WriteRefusal.TheVariants.{NoRoom}
 use Rattle.form_writer.specs.Parts.{write_alone, words_octets, parts_octets, joined_octets}
 use Rattle.form_writer.proofs.WordRuns.{words_length}
 
 -- octets that fit a buffer, and octets that do not
-pub alone_fits : (xs d e : List ℕ) (n : ℕ) → n ≡ length xs → n ≤ length d → e ≡ stored d 0 xs → afterwards (Done n) e ≡ write_alone xs d
+pub alone_fits : (xs d e : List ℕ) (n : ℕ) → n ≡ length xs → n ≤ length d → e ≡ stored d 0 xs → afterwards (Ok n) e ≡ write_alone xs d
 unfolding write_alone
 alone_fits xs d e n s h f = let l : length xs ≤ length d = omega arith in rw (le-leb (length xs) (length d) l, s, f)
 
-pub alone_full : (xs d : List ℕ) (n : ℕ) → n ≡ length xs → length d < n → afterwards NoRoom d ≡ write_alone xs d
+pub alone_full : (xs d : List ℕ) (n : ℕ) → n ≡ length xs → length d < n → afterwards (Err NoRoom) d ≡ write_alone xs d
 unfolding write_alone
 alone_full xs d n s h = let l : length d < length xs = omega arith in rw (lt-leb (length xs) (length d) l)
 

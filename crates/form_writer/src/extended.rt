@@ -6,18 +6,18 @@ ghost use Rattle.sflow.specs.Datagram.{as_path_type, extended_data_type};
 ghost use Rattle.form_writer.specs.Parts.{write_given};
 ghost use Rattle.form_writer.specs.Values.{switch_value, router_value, segment_value, gateway_given, user_value, url_value};
 
-use crate::parts::WriteAnswer;
+use crate::parts::WriteRefusal;
 use extended_data::{Router, Switch};
 use fields::runs::Passed;
 
-pub fn write_switch(d: &mut [u8], x: Switch) -> WriteAnswer
+pub fn write_switch(d: &mut [u8], x: Switch) -> Result<usize, WriteRefusal>
     ensures { afterwards result d.new ≡ write_given extended_data_type (some (switch_value x)) d.old }
 {
     let ws = [1, x.src_vlan, x.src_priority, x.dst_vlan, x.dst_priority];
     crate::parts::write_words(d, &ws)
 }
 
-pub fn write_router(d: &mut [u8], x: Router) -> WriteAnswer
+pub fn write_router(d: &mut [u8], x: Router) -> Result<usize, WriteRefusal>
     ensures { afterwards result d.new ≡ write_given extended_data_type (some (router_value x)) d.old }
 {
     let a = x.nexthop;
@@ -31,22 +31,22 @@ pub fn write_router(d: &mut [u8], x: Router) -> WriteAnswer
         let ws = [2, 2, q.a, q.b, q.c, q.d, x.src_mask, x.dst_mask];
         return crate::parts::write_words(d, &ws);
     }
-    WriteAnswer::BadValue
+    Err(WriteRefusal::BadValue)
 }
 
 // A path segment of a type, 1 or 2, and its numbers.
-pub fn write_segment(d: &mut [u8], kind: u32, numbers: &[u32]) -> WriteAnswer
+pub fn write_segment(d: &mut [u8], kind: u32, numbers: &[u32]) -> Result<usize, WriteRefusal>
     ensures { afterwards result d.new
         ≡ write_given as_path_type (some (segment_value kind numbers.now)) d.old }
 {
     if kind < 1 {
-        return WriteAnswer::BadValue;
+        return Err(WriteRefusal::BadValue);
     }
     if 2 < kind {
-        return WriteAnswer::BadValue;
+        return Err(WriteRefusal::BadValue);
     }
     if 4294967295 < numbers.len() {
-        return WriteAnswer::BadValue;
+        return Err(WriteRefusal::BadValue);
     }
     let head = [kind, numbers.len() as u32];
     let empty = [0u32; 1];
@@ -65,19 +65,19 @@ pub fn write_gateway(
     path: &[u8],
     communities: &[u32],
     localpref: u32,
-) -> WriteAnswer
+) -> Result<usize, WriteRefusal>
     ensures { afterwards result d.new
         ≡ write_given extended_data_type (gateway_given router_as src_as src_peer_as count path.now communities.now localpref) d.old }
 {
     let passed = extended_data::pass_segments(path, 0, count);
     let Passed::Next(end) = passed else {
-        return WriteAnswer::BadValue;
+        return Err(WriteRefusal::BadValue);
     };
     if end != path.len() {
-        return WriteAnswer::BadValue;
+        return Err(WriteRefusal::BadValue);
     }
     if 4294967295 < communities.len() {
-        return WriteAnswer::BadValue;
+        return Err(WriteRefusal::BadValue);
     }
     let head = [3, router_as, src_as, src_peer_as, count];
     let middle = [communities.len() as u32];
@@ -85,15 +85,15 @@ pub fn write_gateway(
     crate::parts::write_parts(d, &head, path, &middle, communities, b"", &tail)
 }
 
-pub fn write_user(d: &mut [u8], src_user: &[u8], dst_user: &[u8]) -> WriteAnswer
+pub fn write_user(d: &mut [u8], src_user: &[u8], dst_user: &[u8]) -> Result<usize, WriteRefusal>
     ensures { afterwards result d.new
         ≡ write_given extended_data_type (some (user_value src_user.now dst_user.now)) d.old }
 {
     if 4294967295 < src_user.len() {
-        return WriteAnswer::BadValue;
+        return Err(WriteRefusal::BadValue);
     }
     if 4294967295 < dst_user.len() {
-        return WriteAnswer::BadValue;
+        return Err(WriteRefusal::BadValue);
     }
     let head = [4, src_user.len() as u32];
     let middle = [dst_user.len() as u32];
@@ -102,18 +102,18 @@ pub fn write_user(d: &mut [u8], src_user: &[u8], dst_user: &[u8]) -> WriteAnswer
     crate::parts::write_parts(d, &head, src_user, &middle, none, dst_user, none)
 }
 
-pub fn write_url(d: &mut [u8], direction: u32, url: &[u8]) -> WriteAnswer
+pub fn write_url(d: &mut [u8], direction: u32, url: &[u8]) -> Result<usize, WriteRefusal>
     ensures { afterwards result d.new
         ≡ write_given extended_data_type (some (url_value direction url.now)) d.old }
 {
     if direction < 1 {
-        return WriteAnswer::BadValue;
+        return Err(WriteRefusal::BadValue);
     }
     if 2 < direction {
-        return WriteAnswer::BadValue;
+        return Err(WriteRefusal::BadValue);
     }
     if 4294967295 < url.len() {
-        return WriteAnswer::BadValue;
+        return Err(WriteRefusal::BadValue);
     }
     let head = [5, direction, url.len() as u32];
     let empty = [0u32; 1];

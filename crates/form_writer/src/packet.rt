@@ -6,21 +6,21 @@ ghost use Rattle.sflow.specs.Datagram.{packet_data_type};
 ghost use Rattle.form_writer.specs.Parts.{write_given};
 ghost use Rattle.form_writer.specs.Values.{header_value, ipv4_value, ipv6_value};
 
-use crate::parts::WriteAnswer;
+use crate::parts::WriteRefusal;
 use packet_data::{SampledIpv4, SampledIpv6};
 
-pub fn write_header(d: &mut [u8], protocol: u32, frame_length: u32, header: &[u8]) -> WriteAnswer
+pub fn write_header(d: &mut [u8], protocol: u32, frame_length: u32, header: &[u8]) -> Result<usize, WriteRefusal>
     ensures { afterwards result d.new
         ≡ write_given packet_data_type (some (header_value protocol frame_length header.now)) d.old }
 {
     if protocol < 1 {
-        return WriteAnswer::BadValue;
+        return Err(WriteRefusal::BadValue);
     }
     if 13 < protocol {
-        return WriteAnswer::BadValue;
+        return Err(WriteRefusal::BadValue);
     }
     if 256 < header.len() {
-        return WriteAnswer::BadValue;
+        return Err(WriteRefusal::BadValue);
     }
     let head = [1, protocol, frame_length, header.len() as u32];
     let empty = [0u32; 1];
@@ -28,7 +28,7 @@ pub fn write_header(d: &mut [u8], protocol: u32, frame_length: u32, header: &[u8
     crate::parts::write_parts(d, &head, header, none, none, b"", none)
 }
 
-pub fn write_ipv4(d: &mut [u8], x: SampledIpv4) -> WriteAnswer
+pub fn write_ipv4(d: &mut [u8], x: SampledIpv4) -> Result<usize, WriteRefusal>
     ensures { afterwards result d.new ≡ write_given packet_data_type (some (ipv4_value x)) d.old }
 {
     let ws = [
@@ -45,7 +45,7 @@ pub fn write_ipv4(d: &mut [u8], x: SampledIpv4) -> WriteAnswer
     crate::parts::write_words(d, &ws)
 }
 
-pub fn write_ipv6(d: &mut [u8], x: SampledIpv6) -> WriteAnswer
+pub fn write_ipv6(d: &mut [u8], x: SampledIpv6) -> Result<usize, WriteRefusal>
     ensures { afterwards result d.new ≡ write_given packet_data_type (some (ipv6_value x)) d.old }
 {
     let s = x.src_ip;

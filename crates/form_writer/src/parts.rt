@@ -2,12 +2,11 @@
 ghost use Rattle.std.specs.Prelude.{◌≡◌, ◌+◌, ◌*◌, ◌≤◌, leb, length, ◌++◌};
 ghost use Rattle.xdr.specs.Items.{padded};
 ghost use Rattle.xdr.specs.Writes.{stored, padded_octets, afterwards};
-ghost use Rattle.form_writer.specs.Parts.{write_number, write_alone, words_octets, parts_octets, joined_octets};
+ghost use Rattle.form_writer.specs.Parts.{write_refusal_number, write_number, write_alone, words_octets, parts_octets, joined_octets};
 
-// What a writer answers: the number of octets written, or why it wrote none.
-#[derive(Clone, Copy)]
-pub enum WriteAnswer {
-    Done(usize),
+// Why a writer wrote nothing.
+#[derive(Clone, Copy, Debug, PartialEq, Eq)]
+pub enum WriteRefusal {
     // the limit is not one that a datagram can have, or the buffer is shorter
     BadLimit,
     // the datagram so far is not well formed, or is longer than the limit
@@ -19,15 +18,26 @@ pub enum WriteAnswer {
 }
 
 // The number of an answer; 0 where the octets are written.
-pub fn answer_number(answer: WriteAnswer) -> u32
+pub fn answer_number(answer: Result<usize, WriteRefusal>) -> u32
     ensures { result ≡ write_number answer }
 {
     match answer {
-        WriteAnswer::Done(_) => 0,
-        WriteAnswer::NoRoom => 20,
-        WriteAnswer::BadLimit => 21,
-        WriteAnswer::BadValue => 22,
-        WriteAnswer::BadDatagram => 23,
+        Ok(_) => 0,
+        Err(why) => u32::from(why),
+    }
+}
+
+// The number of a refusal.
+impl From<WriteRefusal> for u32 {
+    ghost from_gives = { λ why n. n ≡ write_refusal_number why };
+
+    fn from(why: WriteRefusal) -> u32 {
+        match why {
+            WriteRefusal::NoRoom => 20,
+            WriteRefusal::BadLimit => 21,
+            WriteRefusal::BadValue => 22,
+            WriteRefusal::BadDatagram => 23,
+        }
     }
 }
 
@@ -72,15 +82,15 @@ fn put_words(d: &mut [u8], at: usize, ws: &[u32])
 }
 
 // Words alone.
-pub fn write_words(d: &mut [u8], ws: &[u32]) -> WriteAnswer
+pub fn write_words(d: &mut [u8], ws: &[u32]) -> Result<usize, WriteRefusal>
     ensures { afterwards result d.new ≡ write_alone (words_octets ws.now) d.old }
 {
     let size = ws.len() * 4;
     if d.len() < size {
-        return WriteAnswer::NoRoom;
+        return Err(WriteRefusal::NoRoom);
     }
     put_words(d, 0, ws);
-    WriteAnswer::Done(size)
+    Ok(size)
 }
 
 // A string with its padding, and words behind it.
@@ -102,7 +112,7 @@ pub fn write_parts(
     list: &[u32],
     second: &[u8],
     tail: &[u32],
-) -> WriteAnswer
+) -> Result<usize, WriteRefusal>
     ensures { afterwards result d.new
         ≡ write_alone (parts_octets head.now first.now middle.now list.now second.now tail.now) d.old }
 {
@@ -117,9 +127,9 @@ pub fn write_parts(
         put_string(d, a, first, middle);
         put_words(d, a + b + c, list);
         put_string(d, a + b + c + e, second, tail);
-        return WriteAnswer::Done(a + b + c + e + f + g);
+        return Ok(a + b + c + e + f + g);
     }
-    WriteAnswer::NoRoom
+    Err(WriteRefusal::NoRoom)
 }
 
 // Words, a string with its padding, a word, octets.
@@ -129,7 +139,7 @@ pub fn write_joined(
     string: &[u8],
     count: u32,
     octets: &[u8],
-) -> WriteAnswer
+) -> Result<usize, WriteRefusal>
     ensures { afterwards result d.new
         ≡ write_alone (joined_octets head.now string.now count octets.now) d.old }
 {
@@ -141,7 +151,7 @@ pub fn write_joined(
         xdr_write::write_padded(d, a, string);
         xdr_write::write_word(d, a + b, count);
         xdr_write::write_octets(d, a + b + 4, octets);
-        return WriteAnswer::Done(a + b + 4 + c);
+        return Ok(a + b + 4 + c);
     }
-    WriteAnswer::NoRoom
+    Err(WriteRefusal::NoRoom)
 }

@@ -10,6 +10,7 @@ use mathlib.Core.Option.{Option, none, some}
 use lib.ListN.{length}
 use lib.Dec.{eqb}
 use borrow.Author.Tests.{eqb-true, eqb-false}
+use Rattle.std.specs.Prelude.{Result, Err}
 use Rattle.xdr.specs.Numbers.{Octets, octets_of}
 use Rattle.xdr.specs.Writes.{padded_octets, afterwards}
 use Rattle.sflow.specs.declared.Refusal.{Refusal}
@@ -21,8 +22,8 @@ use Rattle.sflow.proofs.Fours.{packet_four}
 use Rattle.fields.specs.declared.runs.Passed.TheVariants.{Next, Refused}
 use Rattle.fields.specs.Parts.{as_passed}
 use Rattle.reader.specs.declared.sample.FlowWords.{FlowWords}
-use Rattle.form_writer.specs.declared.parts.WriteAnswer.{WriteAnswer}
-use Rattle.form_writer.specs.declared.parts.WriteAnswer.TheVariants.{BadValue}
+use Rattle.form_writer.specs.declared.parts.WriteRefusal.{WriteRefusal}
+use Rattle.form_writer.specs.declared.parts.WriteRefusal.TheVariants.{BadValue}
 use Rattle.form_writer.specs.Parts.{write_value, write_given, words_octets, joined_octets}
 use Rattle.form_writer.proofs.Allowances.{not_allowed, value_written}
 use Rattle.form_writer.proofs.Allowed.{entries_there, entries_elsewhere, entries_nowhere}
@@ -33,18 +34,18 @@ use Rattle.sample_writer.specs.FlowValues.{flow_words_value, flow_value, flow_gi
 
 -- a flow sample that the grammar allows has packet data that it allows
 pub packet_bad : (w : FlowWords) (p : Value packet_data_type) (x : Option (List (Value extended_data_type))) (d : List ℕ)
-    → (Valid packet_data_type p → ⊥) → afterwards BadValue d ≡ write_given sample_type (flow_given w (some p) x) d
+    → (Valid packet_data_type p → ⊥) → afterwards (Err BadValue) d ≡ write_given sample_type (flow_given w (some p) x) d
 packet_bad w p none d n = refl
 packet_bad w p (some es) d n = not_allowed sample_type (flow_value w p es) d (λ h. n h.2.1.0)
 
 -- without packet data nothing is written
 pub packet_none : (w : FlowWords) (p : Option (Value packet_data_type)) (x : Option (List (Value extended_data_type))) (d : List ℕ)
-    → p ≡ none → afterwards BadValue d ≡ write_given sample_type (flow_given w p x) d
+    → p ≡ none → afterwards (Err BadValue) d ≡ write_given sample_type (flow_given w p x) d
 packet_none w p x d e = rw e
 
 -- packet data that were found to be given
 pub packet_given : (w : FlowWords) (x : Option (Value packet_data_type)) (p : Value packet_data_type) (es : Option (List (Value extended_data_type)))
-    (d e : List ℕ) (r : WriteAnswer) → x ≡ some p → afterwards r e ≡ write_given sample_type (flow_given w (some p) es) d
+    (d e : List ℕ) (r : Result ℕ WriteRefusal) → x ≡ some p → afterwards r e ≡ write_given sample_type (flow_given w (some p) es) d
     → afterwards r e ≡ write_given sample_type (flow_given w x es) d
 packet_given w x p es d e r given f = rw given f
 
@@ -105,7 +106,7 @@ flow_fits w f = (f.sequence, (f.source, (f.rate, (f.pool, (f.drops, (f.input, (f
 -- what is answered of a flow sample with packet data p, whose octets are words and a string
 module _ (w : FlowWords) (fit : FlowFits w) (p : Value packet_data_type) (valid : Valid packet_data_type p) (ws string : List ℕ)
     (same : words_octets ws ++ padded_octets string ≡ encode packet_data_type p) (count : ℕ) (few : count < 2 ^ 32) (extended : List ℕ) (octets : Octets extended)
-    (d e : List ℕ) (r : WriteAnswer) where
+    (d e : List ℕ) (r : Result ℕ WriteRefusal) where
   pub flow_put : afterwards r e
       ≡ write_value (is_given (entries_in extended_data_type count extended)) (joined_octets (flow_head w ++ ws) string count extended) d
       → afterwards r e ≡ write_given sample_type (flow_given w (some p) (entries_in extended_data_type count extended)) d

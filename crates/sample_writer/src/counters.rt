@@ -11,7 +11,7 @@ ghost use Rattle.form_writer.specs.Parts.{write_value, write_given, words_octets
 ghost use Rattle.sample_writer.specs.CounterValues.{WordOrHyper, counters_value};
 
 use form_writer::parts;
-use form_writer::parts::WriteAnswer;
+use form_writer::parts::WriteRefusal;
 use xdr::Written;
 
 // Whether a number fits a width, a word's or a hyper's.
@@ -76,20 +76,21 @@ fn write_numbers(
     total: usize,
     widths: &[u8],
     numbers: &[u64],
-) -> WriteAnswer
+) -> Result<usize, WriteRefusal>
     requires { T (words_and_hypers widths.now) × (length head.now ≡ 5) × (total ≡ 20 + total_width widths.now) }
     ensures { afterwards result d.new
         ≡ write_value (each_fits widths.now numbers.now) (words_octets head.now ++ octets_of_each widths.now numbers.now) d.old }
 {
-    if each_fits(widths, numbers) {
-        if d.len() < total {
-            return WriteAnswer::NoRoom;
-        }
-        parts::write_words(d, head);
-        put_numbers(d, 20, widths, numbers);
-        return WriteAnswer::Done(total);
+    if !each_fits(widths, numbers) {
+        return Err(WriteRefusal::BadValue);
     }
-    WriteAnswer::BadValue
+    if d.len() < total {
+        return Err(WriteRefusal::NoRoom);
+    }
+    // There is room.
+    let _ = parts::write_words(d, head);
+    put_numbers(d, 20, widths, numbers);
+    Ok(total)
 }
 
 // A counter sample, with its type word: the counters are numbers in the order of the version's fields.
@@ -100,7 +101,7 @@ pub fn write_counters(
     sampling_interval: u32,
     version: u32,
     numbers: &[u64],
-) -> WriteAnswer
+) -> Result<usize, WriteRefusal>
     ensures { afterwards result d.new
         ≡ write_given sample_type (some (counters_value sequence_number source_id sampling_interval version numbers.now)) d.old }
 {
@@ -111,6 +112,6 @@ pub fn write_counters(
         3 => write_numbers(d, &head, 180, &counter_data::TOKENRING_WIDTHS, numbers),
         5 => write_numbers(d, &head, 188, &counter_data::VG_WIDTHS, numbers),
         7 => write_numbers(d, &head, 48, &counter_data::VLAN_WIDTHS, numbers),
-        _ => WriteAnswer::BadValue,
+        _ => Err(WriteRefusal::BadValue),
     }
 }

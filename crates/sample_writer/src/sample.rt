@@ -9,7 +9,7 @@ ghost use Rattle.form_writer.specs.Values.{header_value, ipv4_value, ipv6_value}
 ghost use Rattle.sample_writer.specs.FlowValues.{flow_given, is_given};
 
 use fields::runs::Passed;
-use form_writer::parts::WriteAnswer;
+use form_writer::parts::WriteRefusal;
 use packet_data::{SampledIpv4, SampledIpv6};
 use reader::sample::FlowWords;
 use xdr::Written;
@@ -26,7 +26,7 @@ fn are_entries(count: u32, extended: &[u8]) -> bool
 
 // A flow sample by its parts: the words up to the packet data's string, that string, which is padded, and so many extended entries as octets that their
 // writers wrote.
-fn put_flow(d: &mut [u8], head: &[u32], string: &[u8], count: u32, extended: &[u8]) -> WriteAnswer
+fn put_flow(d: &mut [u8], head: &[u32], string: &[u8], count: u32, extended: &[u8]) -> Result<usize, WriteRefusal>
     ensures { afterwards result d.new
         ≡ write_value (is_given (entries_in extended_data_type count extended.now))
         (joined_octets head.now string.now count extended.now) d.old }
@@ -34,7 +34,7 @@ fn put_flow(d: &mut [u8], head: &[u32], string: &[u8], count: u32, extended: &[u
     if are_entries(count, extended) {
         return form_writer::parts::write_joined(d, head, string, count, extended);
     }
-    WriteAnswer::BadValue
+    Err(WriteRefusal::BadValue)
 }
 
 // A flow sample with a sampled header: its words, the header's protocol, the frame's length and the header's octets, and so many extended entries as octets
@@ -47,18 +47,18 @@ pub fn write_header_flow(
     header: &[u8],
     count: u32,
     extended: &[u8],
-) -> WriteAnswer
+) -> Result<usize, WriteRefusal>
     ensures { afterwards result d.new
         ≡ write_given sample_type (flow_given words (some (header_value protocol frame_length header.now)) (entries_in extended_data_type count extended.now)) d.old }
 {
     if protocol < 1 {
-        return WriteAnswer::BadValue;
+        return Err(WriteRefusal::BadValue);
     }
     if 13 < protocol {
-        return WriteAnswer::BadValue;
+        return Err(WriteRefusal::BadValue);
     }
     if 256 < header.len() {
-        return WriteAnswer::BadValue;
+        return Err(WriteRefusal::BadValue);
     }
     let w = words;
     let head = [
@@ -85,7 +85,7 @@ pub fn write_ipv4_flow(
     packet: SampledIpv4,
     count: u32,
     extended: &[u8],
-) -> WriteAnswer
+) -> Result<usize, WriteRefusal>
     ensures { afterwards result d.new
         ≡ write_given sample_type (flow_given words (some (ipv4_value packet)) (entries_in extended_data_type count extended.now)) d.old }
 {
@@ -120,7 +120,7 @@ pub fn write_ipv6_flow(
     packet: SampledIpv6,
     count: u32,
     extended: &[u8],
-) -> WriteAnswer
+) -> Result<usize, WriteRefusal>
     ensures { afterwards result d.new
         ≡ write_given sample_type (flow_given words (some (ipv6_value packet)) (entries_in extended_data_type count extended.now)) d.old }
 {
@@ -163,15 +163,15 @@ pub fn write_flow(
     packet: &[u8],
     count: u32,
     extended: &[u8],
-) -> WriteAnswer
+) -> Result<usize, WriteRefusal>
     ensures { afterwards result d.new
         ≡ write_given sample_type (flow_given words (value_in packet_data_type packet.now) (entries_in extended_data_type count extended.now)) d.old }
 {
     let Passed::Next(end) = packet_data::pass_packet(packet, 0) else {
-        return WriteAnswer::BadValue;
+        return Err(WriteRefusal::BadValue);
     };
     if end != packet.len() {
-        return WriteAnswer::BadValue;
+        return Err(WriteRefusal::BadValue);
     }
     let w = words;
     let head = [
@@ -188,17 +188,17 @@ pub fn write_flow(
 }
 
 // A sample given as octets.
-pub fn write_sample(d: &mut [u8], sample: &[u8]) -> WriteAnswer
+pub fn write_sample(d: &mut [u8], sample: &[u8]) -> Result<usize, WriteRefusal>
     ensures { afterwards result d.new ≡ write_given sample_type (value_in sample_type sample.now) d.old }
 {
     let Passed::Next(end) = reader::sample::pass_sample(sample, 0) else {
-        return WriteAnswer::BadValue;
+        return Err(WriteRefusal::BadValue);
     };
     if end != sample.len() {
-        return WriteAnswer::BadValue;
+        return Err(WriteRefusal::BadValue);
     }
     match xdr_write::write_octets(d, 0, sample) {
-        Written::WrittenTo(n) => WriteAnswer::Done(n),
-        Written::Full => WriteAnswer::NoRoom,
+        Written::WrittenTo(n) => Ok(n),
+        Written::Full => Err(WriteRefusal::NoRoom),
     }
 }
