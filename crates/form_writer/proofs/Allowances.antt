@@ -29,6 +29,10 @@ none_given g x d e = rw e
 pub not_allowed : (g : Form) (v : Value g) (d : List ℕ) → (Valid g v → ⊥) → afterwards (Err BadValue) d ≡ write_given g (some v) d
 not_allowed g v d n = refused_value _ _ _ (invalid_refused g v n)
 
+-- the same by a refusal that is handed on
+pub not_allowed_so : (g : Form) (v : Value g) (d : List ℕ) (r : Result ℕ WriteRefusal) → r ≡ Err BadValue → (Valid g v → ⊥) → afterwards r d ≡ write_given g (some v) d
+not_allowed_so g v d r e n = rw e (not_allowed g v d n)
+
 -- a value that it allows, written as its octets
 pub value_written : (g : Form) (v : Value g) (ys d e : List ℕ) (r : Result ℕ WriteRefusal) → Valid g v → ys ≡ encode g v → afterwards r e ≡ write_alone ys d
     → afterwards r e ≡ write_given g (some v) d

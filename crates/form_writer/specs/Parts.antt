@@ -1,10 +1,12 @@
 -- What writing a value alone answers, and what the buffer then holds (document 01, "Writer").
 use Rattle.std.specs.Prelude.{ℕ, Bool, cond, length, leb, Result, Ok, Err}
-use mathlib.Core.List.{List, ◌++◌, flat_map}
+use mathlib.Core.List.{List, [], ◌∷◌, ◌++◌, flat_map}
 use Rattle.std.proofs.Math.Option.{Option}
 use Rattle.xdr.specs.Numbers.{octets_of}
 use Rattle.xdr.specs.Writes.{padded_octets, Afterwards, afterwards, store_if}
 use Rattle.sflow.specs.Grammar.{Form, Value, allows_given, encode_given}
+use Rattle.form_writer.specs.declared.parts.Part.{Part}
+use Rattle.form_writer.specs.declared.parts.Part.TheVariants.{Words, Padded, Octets}
 use Rattle.form_writer.specs.declared.parts.WriteRefusal.{WriteRefusal}
 use Rattle.form_writer.specs.declared.parts.WriteRefusal.TheVariants.{BadLimit, BadDatagram, BadValue, NoRoom}
 
@@ -36,11 +38,13 @@ write_given g x d = write_value (allows_given g x) (encode_given g x) d
 unfoldable pub words_octets : List ℕ → List ℕ
 words_octets ws = flat_map (octets_of 4) ws
 
--- words, a string, words, words, a string, words; strings with their padding
-unfoldable pub parts_octets : List ℕ → List ℕ → List ℕ → List ℕ → List ℕ → List ℕ → List ℕ
-parts_octets head first middle list second tail =
-    words_octets head ++ (padded_octets first ++ (words_octets middle ++ (words_octets list ++ (padded_octets second ++ words_octets tail))))
+-- the octets of a part: words, a string with its padding, or octets as they are
+abbrev pub part_octets : Part → List ℕ
+part_octets (Words ws) = words_octets ws.now
+part_octets (Padded xs) = padded_octets xs.now
+part_octets (Octets xs) = xs.now
 
--- words, a string with its padding, a word, octets
-unfoldable pub joined_octets : List ℕ → List ℕ → ℕ → List ℕ → List ℕ
-joined_octets head string count xs = words_octets head ++ (padded_octets string ++ (octets_of 4 count ++ xs))
+-- parts one behind the other
+abbrev pub parts_octets : List Part → List ℕ
+parts_octets [] = []
+parts_octets (p ∷ ps) = part_octets p ++ parts_octets ps

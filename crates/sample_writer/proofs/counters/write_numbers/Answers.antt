@@ -28,4 +28,3 @@ returns c =
     c.requires.1 c.requires.2 _ _ (sym c.each_fits.ensures ∙ c.if-not-each_fits.false) c.if-d-total.false
     (head_put _ c.args.head.now _ _ c.requires.1 (omega arith) c.write_words.ensures)
     c.put_numbers.ensures
-
