@@ -64,11 +64,10 @@ put_next d₀ at ws ns d i p k h =
       octets_are = rw (add-one, drop-cons ws i 0 h, drop-cons ns i 0 j);
     }
 
--- one number more
-pub put_step : (d₀ : List ℕ) (at : ℕ) (ws ns d : List ℕ) (i p : ℕ) (r : Written) (e : List ℕ) → Putting d₀ at ws ns d i p → i < length ws
+put_one : (d₀ : List ℕ) (at : ℕ) (ws ns d : List ℕ) (i p : ℕ) (r : Written) (e : List ℕ) → Putting d₀ at ws ns d i p → i < length ws
     → afterwards r e ≡ write_at d p (octets_of (get_or ws i 0) (get_or ns i 0))
     → Putting d₀ at ws ns e (i + 1) (p + get_or ws i 0)
-put_step d₀ at ws ns d i p r e k h f =
+put_one d₀ at ws ns d i p r e k h f =
     let n = put_next d₀ at ws ns d i p k h in
     let xs : List ℕ = octets_of (get_or ws i 0) (get_or ns i 0) in
     let ys : List ℕ = octets_of_each (drop (i + 1) ws) (drop (i + 1) ns) in
@@ -88,6 +87,12 @@ put_step d₀ at ws ns d i p r e k h f =
           rw (g.octets_are, stored_next d p (p + get_or ws i 0) xs ys (omega arith) (omega arith))
           (ap (stored d p) (sym n.octets_are) ∙ k.all_are);
     }
+
+-- one number more
+pub put_step : (d₀ : List ℕ) (at : ℕ) (ws ns d : List ℕ) (i p : ℕ) (r : Written) (e : List ℕ) → Putting d₀ at ws ns d i p → i < length ws
+    → (j w v : ℕ) → j ≡ i + 1 → w ≡ get_or ws i 0 → v ≡ get_or ns i 0
+    → afterwards r e ≡ write_at d p (octets_of w v) → Putting d₀ at ws ns e j (p + w)
+put_step d₀ at ws ns d i p r e k h j w v a b c f = rw (a, b) (put_one d₀ at ws ns d i p r e k h (rw (b, c) at f))
 
 -- all numbers
 pub put_end : (d₀ : List ℕ) (at : ℕ) (ws ns d : List ℕ) (i p : ℕ) → Putting d₀ at ws ns d i p → length ws ≤ i → d ≡ stored d₀ at (octets_of_each ws ns)

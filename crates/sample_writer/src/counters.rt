@@ -19,10 +19,7 @@ fn fits_width(width: u8, v: u64) -> bool
     requires { WordOrHyper width }
     ensures { result ≡ ltb v (256 ^ width) }
 {
-    if width == 8 {
-        return true;
-    }
-    v < 4294967296
+    width == 8 || v < 4294967296
 }
 
 // Whether there are as many numbers as widths, and each fits its own.
@@ -33,11 +30,8 @@ fn each_fits(widths: &[u8], numbers: &[u64]) -> bool
     if numbers.len() != widths.len() {
         return false;
     }
-    let mut i = 0;
-    while i < widths.len() {
-        if fits_width(widths[i], numbers[i]) {
-            i += 1;
-        } else {
+    for (width, v) in widths.iter().zip(numbers) {
+        if !fits_width(*width, *v) {
             return false;
         }
     }
@@ -60,12 +54,10 @@ fn put_numbers(d: &mut [u8], at: usize, widths: &[u8], numbers: &[u64])
     requires { Each WordOrHyper widths.now × Fits widths.now numbers.now × (at + total_width widths.now ≤ length d.old) }
     ensures { d.new ≡ stored d.old at (octets_of_each widths.now numbers.now) }
 {
-    let mut i = 0;
     let mut p = at;
-    while i < widths.len() {
-        write_number(d, p, widths[i], numbers[i]);
-        p += widths[i] as usize;
-        i += 1;
+    for (width, v) in widths.iter().zip(numbers) {
+        write_number(d, p, *width, *v);
+        p += *width as usize;
     }
 }
 
