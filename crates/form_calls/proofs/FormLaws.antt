@@ -6,10 +6,11 @@ use mathlib.Core.List.{List, []}
 use mathlib.Core.Option.{Option, none, some}
 use lib.ListN.{length}
 use borrow.Author.Tests.{eq-eqb, ne_eqb}
+use Rattle.std.specs.Prelude.{Result, Err}
 use Rattle.fields.specs.Parts.{item}
-use Rattle.form_writer.specs.declared.parts.WriteAnswer.{WriteAnswer}
+use Rattle.form_writer.specs.declared.parts.WriteRefusal.{WriteRefusal}
 use Rattle.xdr.specs.Writes.{Afterwards, afterwards}
-use Rattle.form_writer.specs.declared.parts.WriteAnswer.TheVariants.{BadValue}
+use Rattle.form_writer.specs.declared.parts.WriteRefusal.TheVariants.{BadValue}
 use Rattle.form_writer.specs.Parts.{write_given}
 use Rattle.form_writer.specs.Values.{ipv4_value, ipv6_value, router_value}
 use Rattle.sample_writer.specs.FlowValues.{flow_given}
@@ -29,7 +30,7 @@ use Rattle.form_calls.specs.Forms.{ipv4_in, ipv4_from, quad_in, ipv6_in, ipv6_fr
 -- no form has another kind
 pub no_form : (kind : ℕ) (words first second d : List ℕ) → kind ≢ 1 → kind ≢ 2 → kind ≢ 3 → kind ≢ 11 → kind ≢ 12 → kind ≢ 13
     → kind ≢ 14 → kind ≢ 15 → kind ≢ 16 → kind ≢ 21
-    → afterwards BadValue d ≡ form_written kind words first second d
+    → afterwards (Err BadValue) d ≡ form_written kind words first second d
 unfolding form_written
 no_form kind words first second d a b c e f g h i j k =
     rw (
@@ -46,11 +47,11 @@ no_form kind words first second d a b c e f g h i j k =
     ) refl
 
 -- a router entry with a given next hop
-abbrev router_with : List ℕ → Quad → Afterwards WriteAnswer → List ℕ → Type 0
+abbrev router_with : List ℕ → Quad → Afterwards (Result ℕ WriteRefusal) → List ℕ → Type 0
 router_with words q o d =
     o ≡ write_given extended_data_type (some (router_value (record { nexthop = record { kind = item words 0; octets = q }; src_mask = item words 5; dst_mask = item words 6 }))) d
 
-pub router_written : {q : Quad} {o : Afterwards WriteAnswer} (words d : List ℕ) → length words ≡ 7 → q ≡ quad_in words 1 → router_with words q o d
+pub router_written : {q : Quad} {o : Afterwards (Result ℕ WriteRefusal)} (words d : List ℕ) → length words ≡ 7 → q ≡ quad_in words 1 → router_with words q o d
     → o ≡ write_given extended_data_type (router_from words) d
 router_written {q} {o} words d n e h = rw (eq-eqb (length words) 7 n) (subst (λ (t : Quad). router_with words t o d) e h)
 
@@ -69,12 +70,12 @@ packet_none words packet extended n e = rw (eq-eqb (length words) 8 n, e)
 
 -- ---- values that are given by the right number of words
 
-pub ipv4_written : (words d : List ℕ) (x : SampledIpv4) (o : Afterwards WriteAnswer) → length words ≡ 8 → x ≡ ipv4_in words
+pub ipv4_written : (words d : List ℕ) (x : SampledIpv4) (o : Afterwards (Result ℕ WriteRefusal)) → length words ≡ 8 → x ≡ ipv4_in words
     → o ≡ write_given packet_data_type (some (ipv4_value x)) d → o ≡ write_given packet_data_type (ipv4_from words) d
 ipv4_written words d x o n e f =
     rw (eq-eqb (length words) 8 n) (f ∙ ap (λ (y : SampledIpv4). write_given packet_data_type (some (ipv4_value y)) d) e)
 
-pub ipv6_written : (words d : List ℕ) (x : SampledIpv6) (o : Afterwards WriteAnswer) → length words ≡ 14 → x ≡ ipv6_in words
+pub ipv6_written : (words d : List ℕ) (x : SampledIpv6) (o : Afterwards (Result ℕ WriteRefusal)) → length words ≡ 14 → x ≡ ipv6_in words
     → o ≡ write_given packet_data_type (some (ipv6_value x)) d → o ≡ write_given packet_data_type (ipv6_from words) d
 ipv6_written words d x o n e f =
     rw (eq-eqb (length words) 14 n) (f ∙ ap (λ (y : SampledIpv6). write_given packet_data_type (some (ipv6_value y)) d) e)
@@ -87,11 +88,11 @@ module _ (words : List ℕ) (w : FlowWords) (p q : Option (Value packet_data_typ
       (ap (λ (v : FlowWords). flow_given v p (entries_in extended_data_type (item words 7) extended)) e
       ∙ ap (λ (x : Option (Value packet_data_type)). flow_given (flow_words_in words) x (entries_in extended_data_type (item words 7) extended)) same)
 
-  pub flow_written : (d : List ℕ) (o : Afterwards WriteAnswer)
+  pub flow_written : (d : List ℕ) (o : Afterwards (Result ℕ WriteRefusal))
       → o ≡ write_given sample_type (flow_given w p (entries_in extended_data_type (item words 7) extended)) d → o ≡ write_given sample_type (flow_from words q extended) d
   flow_written d o f = f ∙ ap (λ (x : Option (Value sample_type)). write_given sample_type x d) flow_from_is
 
-  pub flow_appended : (limit size : ℕ) (d : List ℕ) (o : Afterwards WriteAnswer)
+  pub flow_appended : (limit size : ℕ) (d : List ℕ) (o : Afterwards (Result ℕ WriteRefusal))
       → o ≡ appended (flow_given w p (entries_in extended_data_type (item words 7) extended)) limit size d → o ≡ appended (flow_from words q extended) limit size d
   flow_appended limit size d o f = f ∙ ap (λ (x : Option (Value sample_type)). appended x limit size d) flow_from_is
 
@@ -103,7 +104,7 @@ ipv6_given words x n e = rw (eq-eqb (length words) 14 n) (ap (λ (y : SampledIpv
 
 -- ---- or by another
 
-pub nothing_appended : (limit size : ℕ) (d : List ℕ) (o : Afterwards WriteAnswer) → o ≡ appended (value_in sample_type []) limit size d
+pub nothing_appended : (limit size : ℕ) (d : List ℕ) (o : Afterwards (Result ℕ WriteRefusal)) → o ≡ appended (value_in sample_type []) limit size d
     → o ≡ appended none limit size d
 nothing_appended limit size d o f = f ∙ ap (λ (x : Option (Value sample_type)). appended x limit size d) nothing_given
 

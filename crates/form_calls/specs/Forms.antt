@@ -1,5 +1,5 @@
 -- Forms and samples given as words and octets.
-use Rattle.std.specs.Prelude.{ℕ, ◌+◌, cond, List, length, drop, leb, eqb}
+use Rattle.std.specs.Prelude.{ℕ, ◌+◌, cond, List, length, drop, leb, eqb, Result, Err}
 use Rattle.std.proofs.Math.Option.{Option, none, some}
 use Rattle.xdr.specs.Writes.{Afterwards, afterwards}
 use Rattle.sflow.specs.Grammar.{Value}
@@ -12,8 +12,8 @@ use Rattle.packet_data.specs.declared.SampledIpv6.{SampledIpv6}
 use Rattle.extended_data.specs.declared.Switch.{Switch}
 use Rattle.extended_data.specs.declared.Router.{Router}
 use Rattle.reader.specs.declared.sample.FlowWords.{FlowWords}
-use Rattle.form_writer.specs.declared.parts.WriteAnswer.{WriteAnswer}
-use Rattle.form_writer.specs.declared.parts.WriteAnswer.TheVariants.{BadValue}
+use Rattle.form_writer.specs.declared.parts.WriteRefusal.{WriteRefusal}
+use Rattle.form_writer.specs.declared.parts.WriteRefusal.TheVariants.{BadValue}
 use Rattle.form_writer.specs.Parts.{write_given}
 use Rattle.form_writer.specs.Values.{header_value, ipv4_value, ipv6_value, switch_value, router_value, segment_value, gateway_given, user_value, url_value}
 use Rattle.sample_writer.specs.FlowValues.{flow_given}
@@ -137,7 +137,7 @@ flow_from words packet extended =
 -- ---- a form by its kind
 
 -- written to the front of a buffer, from words and two strings of octets; 22 for any other kind
-unfoldable pub form_written : ℕ → List ℕ → List ℕ → List ℕ → List ℕ → Afterwards WriteAnswer
+unfoldable pub form_written : ℕ → List ℕ → List ℕ → List ℕ → List ℕ → Afterwards (Result ℕ WriteRefusal)
 form_written kind words first second d =
     cond (eqb kind 1) (write_given packet_data_type (header_from words first) d)
     (cond (eqb kind 2) (write_given packet_data_type (ipv4_from words) d)
@@ -149,4 +149,4 @@ form_written kind words first second d =
     (cond (eqb kind 15) (write_given extended_data_type (url_from words first) d)
     (cond (eqb kind 16) (write_given as_path_type (segment_from words) d)
     (cond (eqb kind 21) (write_given sample_type (flow_from words (value_in packet_data_type first) second) d)
-    (afterwards BadValue d))))))))))
+    (afterwards (Err BadValue) d))))))))))

@@ -14,17 +14,17 @@ ghost use Rattle.form_calls.specs.Forms.{header_from, ipv4_in, ipv4_from, quad_i
 
 use extended_data::{Router, Switch};
 use fields::address::{Address, Quad};
-use form_writer::parts::WriteAnswer;
+use form_writer::parts::WriteRefusal;
 use packet_data::{SampledIpv4, SampledIpv6};
 use reader::sample::FlowWords;
 use write_reports::report;
 
 // A sampled header.
-fn header(words: &[u32], octets: &[u8], buffer: &mut [u8]) -> WriteAnswer
+fn header(words: &[u32], octets: &[u8], buffer: &mut [u8]) -> Result<usize, WriteRefusal>
     ensures { afterwards result buffer.new ≡ write_given packet_data_type (header_from words.now octets.now) buffer.old }
 {
     if words.len() != 2 {
-        return WriteAnswer::BadValue;
+        return Err(WriteRefusal::BadValue);
     }
     form_writer::packet::write_header(buffer, words[0], words[1], octets)
 }
@@ -47,11 +47,11 @@ fn ipv4_in(words: &[u32]) -> SampledIpv4
 }
 
 // IPv4 data.
-fn ipv4(words: &[u32], buffer: &mut [u8]) -> WriteAnswer
+fn ipv4(words: &[u32], buffer: &mut [u8]) -> Result<usize, WriteRefusal>
     ensures { afterwards result buffer.new ≡ write_given packet_data_type (ipv4_from words.now) buffer.old }
 {
     if words.len() != 8 {
-        return WriteAnswer::BadValue;
+        return Err(WriteRefusal::BadValue);
     }
     let x = ipv4_in(words);
     form_writer::packet::write_ipv4(buffer, x)
@@ -88,22 +88,22 @@ fn ipv6_in(words: &[u32]) -> SampledIpv6
 }
 
 // IPv6 data.
-fn ipv6(words: &[u32], buffer: &mut [u8]) -> WriteAnswer
+fn ipv6(words: &[u32], buffer: &mut [u8]) -> Result<usize, WriteRefusal>
     ensures { afterwards result buffer.new ≡ write_given packet_data_type (ipv6_from words.now) buffer.old }
 {
     if words.len() != 14 {
-        return WriteAnswer::BadValue;
+        return Err(WriteRefusal::BadValue);
     }
     let x = ipv6_in(words);
     form_writer::packet::write_ipv6(buffer, x)
 }
 
 // A switch entry.
-fn switch(words: &[u32], buffer: &mut [u8]) -> WriteAnswer
+fn switch(words: &[u32], buffer: &mut [u8]) -> Result<usize, WriteRefusal>
     ensures { afterwards result buffer.new ≡ write_given extended_data_type (switch_from words.now) buffer.old }
 {
     if words.len() != 4 {
-        return WriteAnswer::BadValue;
+        return Err(WriteRefusal::BadValue);
     }
     let x = Switch {
         src_vlan: words[0],
@@ -115,11 +115,11 @@ fn switch(words: &[u32], buffer: &mut [u8]) -> WriteAnswer
 }
 
 // A router entry.
-fn router(words: &[u32], buffer: &mut [u8]) -> WriteAnswer
+fn router(words: &[u32], buffer: &mut [u8]) -> Result<usize, WriteRefusal>
     ensures { afterwards result buffer.new ≡ write_given extended_data_type (router_from words.now) buffer.old }
 {
     if words.len() != 7 {
-        return WriteAnswer::BadValue;
+        return Err(WriteRefusal::BadValue);
     }
     let x = Router {
         nexthop: Address {
@@ -133,11 +133,11 @@ fn router(words: &[u32], buffer: &mut [u8]) -> WriteAnswer
 }
 
 // A gateway entry.
-fn gateway(words: &[u32], path: &[u8], buffer: &mut [u8]) -> WriteAnswer
+fn gateway(words: &[u32], path: &[u8], buffer: &mut [u8]) -> Result<usize, WriteRefusal>
     ensures { afterwards result buffer.new ≡ write_given extended_data_type (gateway_from words.now path.now) buffer.old }
 {
     if words.len() < 5 {
-        return WriteAnswer::BadValue;
+        return Err(WriteRefusal::BadValue);
     }
     form_writer::extended::write_gateway(
         buffer,
@@ -152,31 +152,31 @@ fn gateway(words: &[u32], path: &[u8], buffer: &mut [u8]) -> WriteAnswer
 }
 
 // A user entry.
-fn user(words: &[u32], src_user: &[u8], dst_user: &[u8], buffer: &mut [u8]) -> WriteAnswer
+fn user(words: &[u32], src_user: &[u8], dst_user: &[u8], buffer: &mut [u8]) -> Result<usize, WriteRefusal>
     ensures { afterwards result buffer.new ≡ write_given extended_data_type (user_from words.now src_user.now dst_user.now) buffer.old }
 {
     if words.len() != 0 {
-        return WriteAnswer::BadValue;
+        return Err(WriteRefusal::BadValue);
     }
     form_writer::extended::write_user(buffer, src_user, dst_user)
 }
 
 // A URL entry.
-fn url(words: &[u32], octets: &[u8], buffer: &mut [u8]) -> WriteAnswer
+fn url(words: &[u32], octets: &[u8], buffer: &mut [u8]) -> Result<usize, WriteRefusal>
     ensures { afterwards result buffer.new ≡ write_given extended_data_type (url_from words.now octets.now) buffer.old }
 {
     if words.len() != 1 {
-        return WriteAnswer::BadValue;
+        return Err(WriteRefusal::BadValue);
     }
     form_writer::extended::write_url(buffer, words[0], octets)
 }
 
 // A path segment.
-fn segment(words: &[u32], buffer: &mut [u8]) -> WriteAnswer
+fn segment(words: &[u32], buffer: &mut [u8]) -> Result<usize, WriteRefusal>
     ensures { afterwards result buffer.new ≡ write_given as_path_type (segment_from words.now) buffer.old }
 {
     if words.len() < 1 {
-        return WriteAnswer::BadValue;
+        return Err(WriteRefusal::BadValue);
     }
     form_writer::extended::write_segment(buffer, words[0], &words[1..])
 }
@@ -198,11 +198,11 @@ fn flow_words_in(words: &[u32]) -> FlowWords
 }
 
 // A flow sample.
-fn flow(words: &[u32], octets: &[u8], entries: &[u8], buffer: &mut [u8]) -> WriteAnswer
+fn flow(words: &[u32], octets: &[u8], entries: &[u8], buffer: &mut [u8]) -> Result<usize, WriteRefusal>
     ensures { afterwards result buffer.new ≡ write_given sample_type (flow_from words.now (value_in packet_data_type octets.now) entries.now) buffer.old }
 {
     if words.len() != 8 {
-        return WriteAnswer::BadValue;
+        return Err(WriteRefusal::BadValue);
     }
     let x = flow_words_in(words);
     sample_writer::sample::write_flow(buffer, x, octets, words[7], entries)
@@ -215,7 +215,7 @@ fn write_kind(
     first: &[u8],
     second: &[u8],
     buffer: &mut [u8],
-) -> WriteAnswer
+) -> Result<usize, WriteRefusal>
     ensures { afterwards result buffer.new ≡ form_written kind words.now first.now second.now buffer.old }
 {
     match kind {
@@ -229,7 +229,7 @@ fn write_kind(
         15 => url(words, first, buffer),
         16 => segment(words, buffer),
         21 => flow(words, first, second, buffer),
-        _ => WriteAnswer::BadValue,
+        _ => Err(WriteRefusal::BadValue),
     }
 }
 

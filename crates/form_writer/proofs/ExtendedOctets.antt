@@ -1,12 +1,12 @@
 -- The octets of extended data as words and strings. Assumes nothing.
 use Prim.Native.Nat.{ℕ, ◌^◌, ◌<◌}
 use mathlib.Core.Path.{◌≡◌, refl}
-use mathlib.Core.List.{List, [], ◌∷◌, flat_map, append_assoc, append-nil}
+use mathlib.Core.List.{List, [], ◌∷◌, ◌++◌, flat_map, append_assoc, append-nil}
 use lib.ListN.{length}
 use Rattle.xdr.specs.Writes.{padded_octets}
 use Rattle.sflow.specs.Grammar.{octets_of_each, encode}
 use Rattle.sflow.specs.Datagram.{extended_data_type}
-use Rattle.form_writer.specs.Parts.{words_octets, parts_octets}
+use Rattle.form_writer.specs.Parts.{words_octets}
 use Rattle.fields.specs.declared.address.Quad.{Quad}
 use Rattle.extended_data.specs.declared.Router.{Router}
 use Rattle.form_writer.specs.Values.{router_value, user_value, url_value}
@@ -32,14 +32,14 @@ router_ipv6 x e hb hc hd =
     let q : Quad = x.nexthop.octets in
     rw (e, quad_octets q.a q.b q.c q.d hb hc hd) (simp (append_assoc, append-nil))
 
--- the octets of users as parts
-pub user_octets : (src dst : List ℕ)
-    → parts_octets (4 ∷ length src ∷ []) src (length dst ∷ []) [] dst [] ≡ encode extended_data_type (user_value src dst)
-unfolding parts_octets words_octets flat_map padded_octets encode octets_of_each
-user_octets src dst = simp (append_assoc, append-nil)
+-- the octets of users as words and strings
+pub user_octets : (src dst : List ℕ) (m n : ℕ) → m ≡ length src → n ≡ length dst
+    → words_octets (4 ∷ m ∷ []) ++ (padded_octets src ++ (words_octets (n ∷ []) ++ (padded_octets dst ++ []))) ≡ encode extended_data_type (user_value src dst)
+unfolding words_octets flat_map padded_octets encode octets_of_each
+user_octets src dst m n e f = rw (e, f) (simp (append_assoc, append-nil))
 
--- the octets of a URL as parts
-pub url_octets : (direction : ℕ) (url : List ℕ)
-    → parts_octets (5 ∷ direction ∷ length url ∷ []) url [] [] [] [] ≡ encode extended_data_type (url_value direction url)
-unfolding parts_octets words_octets flat_map padded_octets encode octets_of_each
-url_octets direction url = simp (append_assoc, append-nil)
+-- the octets of a URL as words and a string
+pub url_octets : (direction : ℕ) (url : List ℕ) (n : ℕ) → n ≡ length url
+    → words_octets (5 ∷ direction ∷ n ∷ []) ++ (padded_octets url ++ []) ≡ encode extended_data_type (url_value direction url)
+unfolding words_octets flat_map padded_octets encode octets_of_each
+url_octets direction url n e = rw e (simp (append_assoc, append-nil))

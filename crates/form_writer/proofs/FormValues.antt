@@ -3,6 +3,7 @@ use Prim.Native.Nat.{ℕ, suc, ◌+◌, ◌*◌, ◌^◌, ◌≤◌, ◌<◌}
 use native.Mathlib.Omega.{arith}
 use native.Mathlib.Nat.{mul-le-mul_right, suc-mul}
 use Prim.{tt}
+use mathlib.Core.Logic.{◌⊎◌, inl, inr}
 use mathlib.Core.Path.{◌≡◌, refl, sym, ap, subst}
 use mathlib.Core.Bool.{Bool, true, false, cond, ◌||◌}
 use mathlib.Core.List.{List, [], ◌∷◌}
@@ -36,11 +37,9 @@ pub one_to_holds : (most v : ℕ) → 1 ≤ v → v ≤ most → T (one_to most 
 one_to_holds most v l h = rw (le-leb 1 v l) (rw (le-leb v most h) tt)
 
 -- a number below 1 or above the most is none of them
-pub below_one : (most v : ℕ) → v < 1 → T (one_to most v) → ⊥
-below_one most v l t = let a = (one_to_told most v t).0 in omega arith
-
-pub above_most : (most v : ℕ) → most < v → T (one_to most v) → ⊥
-above_most most v l t = let a = (one_to_told most v t).1 in omega arith
+pub outside : (most v : ℕ) → (v < 1) ⊎ (most < v) → T (one_to most v) → ⊥
+outside most v (inl l) t = let a = (one_to_told most v t).0 in omega arith
+outside most v (inr l) t = let a = (one_to_told most v t).1 in omega arith
 
 -- ---- lists of words
 
@@ -54,17 +53,14 @@ words_each : (ws : List ℕ) → Words ws → Each (Valid word) (words_value ws)
 words_each [] h = tt
 words_each (w ∷ ws) h = ((h 0, tt), words_each ws (λ i. h (suc i)))
 
-pub words_valid : (ws : List ℕ) → length ws ≤ 4294967295 → Words ws → (length (words_value ws) < 2 ^ 32) × Each (Valid word) (words_value ws)
+pub words_valid : (ws : List ℕ) → length ws < 2 ^ 32 → Words ws → (length (words_value ws) < 2 ^ 32) × Each (Valid word) (words_value ws)
 words_valid ws few h = let l : length (words_value ws) < 2 ^ 32 = rw (words_count ws) (omega arith) in (l, words_each ws h)
 
 -- ---- packet data
 
 module _ (protocol frame : ℕ) (xs : List ℕ) where
-  pub header_low : protocol < 1 → Valid packet_data_type (header_value protocol frame xs) → ⊥
-  header_low l h = below_one 13 protocol l h.2.1
-
-  pub header_high : 13 < protocol → Valid packet_data_type (header_value protocol frame xs) → ⊥
-  header_high l h = above_most 13 protocol l h.2.1
+  pub header_other : (protocol < 1) ⊎ (13 < protocol) → Valid packet_data_type (header_value protocol frame xs) → ⊥
+  header_other l h = outside 13 protocol l h.2.1
 
   pub header_long : 256 < length xs → Valid packet_data_type (header_value protocol frame xs) → ⊥
   header_long l h = let few = h.2.2.1.1 in omega arith
@@ -143,38 +139,32 @@ pub router_other : (x : Router) → (x.nexthop.kind ≡ 1 → ⊥) → (x.nextho
 router_other x n m h = other_listed x.nexthop.kind n m h.2.0.1
 
 module _ (kind : ℕ) (ns : List ℕ) where
-  pub segment_low : kind < 1 → Valid as_path_type (segment_value kind ns) → ⊥
-  segment_low l h = below_one 2 kind l h.1
+  pub segment_other : (kind < 1) ⊎ (2 < kind) → Valid as_path_type (segment_value kind ns) → ⊥
+  segment_other l h = outside 2 kind l h.1
 
-  pub segment_high : 2 < kind → Valid as_path_type (segment_value kind ns) → ⊥
-  segment_high l h = above_most 2 kind l h.1
+  pub segment_many : (length ns < 2 ^ 32 → ⊥) → Valid as_path_type (segment_value kind ns) → ⊥
+  segment_many l h = let few = h.2.0 in let same = words_count ns in l (omega arith)
 
-  pub segment_many : 4294967295 < length ns → Valid as_path_type (segment_value kind ns) → ⊥
-  segment_many l h = let few = h.2.0 in let same = words_count ns in omega arith
-
-  pub segment_valid : kind < 2 ^ 32 → 1 ≤ kind → kind ≤ 2 → length ns ≤ 4294967295 → Words ns → Valid as_path_type (segment_value kind ns)
+  pub segment_valid : kind < 2 ^ 32 → 1 ≤ kind → kind ≤ 2 → length ns < 2 ^ 32 → Words ns → Valid as_path_type (segment_value kind ns)
   segment_valid k l m few h = (k, one_to_holds 2 kind l m, words_valid ns few h)
 
 module _ (src dst : List ℕ) where
-  pub source_long : 4294967295 < length src → Valid extended_data_type (user_value src dst) → ⊥
-  source_long l h = let few = h.2.0.0 in omega arith
+  pub source_long : (length src < 2 ^ 32 → ⊥) → Valid extended_data_type (user_value src dst) → ⊥
+  source_long l h = l h.2.0.0
 
-  pub destination_long : 4294967295 < length dst → Valid extended_data_type (user_value src dst) → ⊥
-  destination_long l h = let few = h.2.1.0 in omega arith
+  pub destination_long : (length dst < 2 ^ 32 → ⊥) → Valid extended_data_type (user_value src dst) → ⊥
+  destination_long l h = l h.2.1.0
 
-  pub user_valid : length src ≤ 4294967295 → length dst ≤ 4294967295 → Octets src → Octets dst → Valid extended_data_type (user_value src dst)
+  pub user_valid : length src < 2 ^ 32 → length dst < 2 ^ 32 → Octets src → Octets dst → Valid extended_data_type (user_value src dst)
   user_valid l m o p = (omega arith, tt, ((omega arith, tt, o), (omega arith, tt, p)))
 
 module _ (direction : ℕ) (url : List ℕ) where
-  pub url_low : direction < 1 → Valid extended_data_type (url_value direction url) → ⊥
-  url_low l h = below_one 2 direction l h.2.1
+  pub url_other : (direction < 1) ⊎ (2 < direction) → Valid extended_data_type (url_value direction url) → ⊥
+  url_other l h = outside 2 direction l h.2.1
 
-  pub url_high : 2 < direction → Valid extended_data_type (url_value direction url) → ⊥
-  url_high l h = above_most 2 direction l h.2.1
+  pub url_long : (length url < 2 ^ 32 → ⊥) → Valid extended_data_type (url_value direction url) → ⊥
+  url_long l h = l h.2.2.0
 
-  pub url_long : 4294967295 < length url → Valid extended_data_type (url_value direction url) → ⊥
-  url_long l h = let few = h.2.2.0 in omega arith
-
-  pub url_valid : direction < 2 ^ 32 → 1 ≤ direction → direction ≤ 2 → length url ≤ 4294967295 → Octets url
+  pub url_valid : direction < 2 ^ 32 → 1 ≤ direction → direction ≤ 2 → length url < 2 ^ 32 → Octets url
       → Valid extended_data_type (url_value direction url)
   url_valid d l m few o = (omega arith, tt, (d, one_to_holds 2 direction l m, (omega arith, tt, o)))

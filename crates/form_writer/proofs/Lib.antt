@@ -1,4 +1,3 @@
-pub mod Rooms
 pub mod WordRuns
 pub mod Stores
 pub mod Allowances

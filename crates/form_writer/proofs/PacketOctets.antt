@@ -8,20 +8,19 @@ use Rattle.xdr.specs.Writes.{padded_octets}
 use Rattle.xdr.proofs.Octets.{quad_octets}
 use Rattle.sflow.specs.Grammar.{octets_of_each, encode}
 use Rattle.sflow.specs.Datagram.{packet_data_type}
-use Rattle.form_writer.specs.Parts.{words_octets, parts_octets}
+use Rattle.form_writer.specs.Parts.{words_octets}
 use Rattle.form_writer.specs.Values.{header_value}
 
--- the octets of a header as parts
+-- the octets of a header as words and a string
 pub header_octets : (protocol frame : ℕ) (xs : List ℕ)
-    → parts_octets (1 ∷ protocol ∷ frame ∷ length xs ∷ []) xs [] [] [] [] ≡ encode packet_data_type (header_value protocol frame xs)
-unfolding parts_octets words_octets flat_map padded_octets encode octets_of_each
+    → words_octets (1 ∷ protocol ∷ frame ∷ length xs ∷ []) ++ (padded_octets xs ++ []) ≡ encode packet_data_type (header_value protocol frame xs)
+unfolding words_octets flat_map padded_octets encode octets_of_each
 header_octets protocol frame xs = simp (append_assoc, append-nil)
 
--- the same as words and a string
+-- the same without what would follow
 pub header_words : (protocol frame : ℕ) (xs : List ℕ)
     → words_octets (1 ∷ protocol ∷ frame ∷ length xs ∷ []) ++ padded_octets xs ≡ encode packet_data_type (header_value protocol frame xs)
-unfolding words_octets flat_map padded_octets encode octets_of_each
-header_words protocol frame xs = simp (append_assoc, append-nil)
+header_words protocol frame xs = rw (← append-nil (padded_octets xs)) (header_octets protocol frame xs)
 
 -- the octets of an IPv4 packet as words
 pub ipv4_octets : (a b c d e f g h : ℕ)

@@ -1,17 +1,14 @@
 -- The octets of path segments and of a gateway. Assumes nothing.
-use Prim.Native.Nat.{ℕ, ◌-◌, ◌%◌, ◌^◌, ◌≤◌, ◌<◌}
+use Prim.Native.Nat.{ℕ, ◌^◌, ◌<◌}
 use native.Mathlib.Omega.{arith}
 use Prim.{tt}
 use mathlib.Core.Path.{◌≡◌, refl, sym, ap}
 use mathlib.Core.List.{List, [], ◌∷◌, ◌++◌, flat_map, append_assoc, append-nil}
 use lib.ListN.{length}
 use Rattle.xdr.specs.Numbers.{octets_of}
-use Rattle.xdr.specs.Items.{padded}
-use Rattle.xdr.specs.Writes.{padded_octets}
 use Rattle.sflow.specs.Grammar.{list, Value, Each, Valid, octets_of_each, encode}
 use Rattle.sflow.specs.Datagram.{word, as_path_type, extended_data_type}
-use Rattle.sflow.proofs.Fours.{path_four}
-use Rattle.form_writer.specs.Parts.{words_octets, parts_octets}
+use Rattle.form_writer.specs.Parts.{words_octets}
 use Rattle.form_writer.specs.Values.{words_value, segment_value, gateway_value}
 use Rattle.form_writer.proofs.FormValues.{Words, words_count, words_valid}
 
@@ -28,47 +25,30 @@ words_list : (ws : List ℕ) → octets_of 4 (length ws) ++ words_octets ws ≡ 
 unfolding encode
 words_list ws = rw (words_count ws, words_entries ws)
 
--- the octets of a path segment as parts
-pub segment_octets : (kind : ℕ) (ns : List ℕ)
-    → parts_octets (kind ∷ length ns ∷ []) [] [] ns [] [] ≡ encode as_path_type (segment_value kind ns)
-unfolding parts_octets words_octets flat_map padded_octets encode
-segment_octets kind ns = simp (append_assoc, append-nil) (ap (λ (xs : List ℕ). octets_of 4 kind ++ xs) (words_list ns))
-
--- ---- padding
-
--- octets that are a multiple of four have no padding
-pub padded_whole : (xs : List ℕ) → length xs % 4 ≡ 0 → padded_octets xs ≡ xs
-unfolding padded_octets
-padded_whole xs h = let none : padded (length xs) - length xs ≡ 0 = omega arith in rw none (append-nil xs)
-
--- an empty string has no padding
-pub nothing_padded : padded_octets [] ≡ []
-unfolding padded_octets
-nothing_padded = refl
+-- the octets of a path segment as words
+pub segment_octets : (kind : ℕ) (ns : List ℕ) (n : ℕ) → n ≡ length ns
+    → words_octets (kind ∷ n ∷ []) ++ (words_octets ns ++ []) ≡ encode as_path_type (segment_value kind ns)
+unfolding words_octets flat_map encode
+segment_octets kind ns n e = rw e (simp (append_assoc, append-nil) (ap (λ (xs : List ℕ). octets_of 4 kind ++ xs) (words_list ns)))
 
 -- ---- a gateway
 
 module _ (router src peer : ℕ) (communities : List ℕ) (preference : ℕ) (vs : List (Value as_path_type)) where
-  -- the octets of a gateway as parts
-  segments_octets : parts_octets (3 ∷ router ∷ src ∷ peer ∷ length vs ∷ []) (flat_map (encode as_path_type) vs) (length communities ∷ []) communities [] (preference ∷ [])
+  -- the octets of a gateway as words and the path's octets
+  pub gateway_octets : (count n : ℕ) (path : List ℕ) → length vs ≡ count → n ≡ length communities → path ≡ flat_map (encode as_path_type) vs
+      → words_octets (3 ∷ router ∷ src ∷ peer ∷ count ∷ []) ++ (path ++ (words_octets (n ∷ []) ++ (words_octets communities ++ (words_octets (preference ∷ []) ++ []))))
       ≡ encode extended_data_type (gateway_value router src peer vs communities preference)
-  unfolding parts_octets words_octets flat_map encode octets_of_each
-  segments_octets =
-      rw (padded_whole (flat_map (encode as_path_type) vs) (path_four vs), nothing_padded, words_count communities, ← words_entries communities) (simp (append_assoc, append-nil))
-
-  -- the same with the path as octets
-  pub gateway_octets : (count : ℕ) (path : List ℕ) → length vs ≡ count → path ≡ flat_map (encode as_path_type) vs
-      → parts_octets (3 ∷ router ∷ src ∷ peer ∷ count ∷ []) path (length communities ∷ []) communities [] (preference ∷ [])
-      ≡ encode extended_data_type (gateway_value router src peer vs communities preference)
-  gateway_octets count path many same = rw (same, ← many) segments_octets
+  unfolding words_octets flat_map encode octets_of_each
+  gateway_octets count n path many few same =
+      rw (same, ← many, few, words_count communities, ← words_entries communities) (simp (append_assoc, append-nil))
 
   -- and the grammar allows it
   pub gateway_valid : router < 2 ^ 32 → src < 2 ^ 32 → peer < 2 ^ 32 → length vs < 2 ^ 32 → Each (Valid as_path_type) vs
-      → length communities ≤ 4294967295 → Words communities → preference < 2 ^ 32
+      → length communities < 2 ^ 32 → Words communities → preference < 2 ^ 32
       → Valid extended_data_type (gateway_value router src peer vs communities preference)
   gateway_valid i j k many each few all low =
       (omega arith, tt, ((i, (j, (k, tt))), ((many, each), (words_valid communities few all, (low, tt)))))
 
   -- a gateway with more communities than a word counts is none
-  pub communities_many : 4294967295 < length communities → Valid extended_data_type (gateway_value router src peer vs communities preference) → ⊥
-  communities_many l h = let few = h.2.1.1.0.0 in let same = words_count communities in omega arith
+  pub communities_many : (length communities < 2 ^ 32 → ⊥) → Valid extended_data_type (gateway_value router src peer vs communities preference) → ⊥
+  communities_many l h = let few = h.2.1.1.0.0 in let same = words_count communities in l (omega arith)

@@ -1,127 +1,105 @@
--- What stores of parts one behind the other leave. Assumes nothing.
-use Prim.Native.Nat.{ℕ, ◌+◌, ◌*◌, ◌≤◌, ◌<◌}
+-- Parts stored one behind the other. Assumes nothing.
+use Prim.Native.Nat.{ℕ, ◌+◌, ◌≤◌, ◌<◌}
+use native.Mathlib.Numerals.{add-one}
 use native.Mathlib.Omega.{arith}
-use mathlib.Core.Path.{◌≡◌, ap, ◌∙◌}
-use mathlib.Core.List.{List, ◌++◌, append_assoc}
-use lib.ListN.{length, length-append}
+use mathlib.Core.Path.{◌≡◌, refl, sym, ap, ◌∙◌}
+use mathlib.Core.List.{List, [], ◌++◌}
+use lib.ListN.{length, get_or, drop, length-append, drop_of_length-le}
+use lib.Seq.{drop-cons}
 use borrow.Author.Tests.{le-leb, lt-leb}
-use Rattle.xdr.specs.Numbers.{octets_of}
-use Rattle.xdr.specs.Items.{padded}
-use Rattle.xdr.specs.Writes.{stored, padded_octets, write_at, afterwards}
-use Rattle.xdr.specs.declared.Written.{Written}
-use Rattle.xdr.proofs.Octets.{octets_length}
-use Rattle.xdr.proofs.Writing.{stored_next, stored_length, padded_length, wrote_fits}
-use Rattle.form_writer.specs.declared.parts.WriteAnswer.TheVariants.{Done, NoRoom}
-use Rattle.form_writer.specs.Parts.{write_alone, words_octets, parts_octets, joined_octets}
-use Rattle.form_writer.proofs.WordRuns.{words_length}
+use Rattle.std.specs.Prelude.{Ok, Err}
+use Rattle.xdr.specs.Writes.{stored, afterwards}
+use Rattle.xdr.proofs.Writing.{stored_next, stored_length}
+use Rattle.form_writer.specs.declared.parts.Part.{Part}
+use Rattle.form_writer.specs.declared.parts.WriteRefusal.TheVariants.{NoRoom}
+use Rattle.form_writer.specs.Parts.{write_alone, part_octets, parts_octets}
+use Rattle.form_writer.proofs.WordRuns.{stored_none}
 
 -- octets that fit a buffer, and octets that do not
-pub alone_fits : (xs d e : List ℕ) (n : ℕ) → n ≡ length xs → n ≤ length d → e ≡ stored d 0 xs → afterwards (Done n) e ≡ write_alone xs d
+pub alone_fits : (xs d e : List ℕ) (n : ℕ) → n ≡ length xs → n ≤ length d → e ≡ stored d 0 xs → afterwards (Ok n) e ≡ write_alone xs d
 unfolding write_alone
 alone_fits xs d e n s h f = let l : length xs ≤ length d = omega arith in rw (le-leb (length xs) (length d) l, s, f)
 
-pub alone_full : (xs d : List ℕ) (n : ℕ) → n ≡ length xs → length d < n → afterwards NoRoom d ≡ write_alone xs d
+pub alone_full : (xs d : List ℕ) (n : ℕ) → n ≡ length xs → length d < n → afterwards (Err NoRoom) d ≡ write_alone xs d
 unfolding write_alone
 alone_full xs d n s h = let l : length d < length xs = omega arith in rw (lt-leb (length xs) (length d) l)
 
--- a string, and words behind it
-pub string_put : (d : List ℕ) (at : ℕ) (xs ws : List ℕ) (r : Written) (e out : List ℕ) → at + padded (length xs) + length ws * 4 ≤ length d
-    → afterwards r e ≡ write_at d at (padded_octets xs) → out ≡ stored e (at + padded (length xs)) (words_octets ws)
-    → out ≡ stored d at (padded_octets xs ++ words_octets ws)
-string_put d at xs ws r e out room f g =
-    let long : length (padded_octets xs) ≡ padded (length xs) = padded_length xs in
-    let many : length (words_octets ws) ≡ length ws * 4 = words_length ws in
-    let h = wrote_fits d at (padded_octets xs) r e f (omega arith) in
-    g ∙ rw h.octets_are (stored_next d at (at + padded (length xs)) (padded_octets xs) (words_octets ws) (omega arith) (omega arith))
+-- what is left of the parts, taken apart: the part at the index i, and those behind it
+next : (ps : List Part) (q : Part) (i : ℕ) → i < length ps → parts_octets (drop i ps) ≡ part_octets (get_or ps i q) ++ parts_octets (drop (i + 1) ps)
+next ps q i h = rw (add-one, drop-cons ps i q h) refl
 
--- how many octets six parts take, one behind the other
-abbrev pub parts_size : (head first middle list second tail : List ℕ) → ℕ
-parts_size head first middle list second tail =
-    length head * 4 + padded (length first) + length middle * 4 + length list * 4 + padded (length second) + length tail * 4
+nothing_left : (ps : List Part) (i : ℕ) → length ps ≤ i → parts_octets (drop i ps) ≡ []
+nothing_left ps i h = rw (drop_of_length-le ps h) refl
 
--- the octets of the parts
-pub parts_length : (head first middle list second tail : List ℕ)
-    → parts_size head first middle list second tail
-    ≡ length (parts_octets head first middle list second tail)
-unfolding parts_octets
-parts_length head first middle list second tail =
-    rw (
-      length-append,
-      length-append,
-      length-append,
-      length-append,
-      length-append,
-      words_length head,
-      words_length middle,
-      words_length list,
-      words_length tail,
-      padded_length first,
-      padded_length second,
-    )
-    (omega arith)
+-- the parts up to the index i have room, and so much of it is left
+pub record Room (d : List ℕ) (ps : List Part) (i room : ℕ) : Type 0 where
+  pub left : room + length (parts_octets ps) ≡ length d + length (parts_octets (drop i ps))
 
--- the parts stored one behind the other
-pub parts_put : (d head first middle list second tail d1 d2 d3 d4 : List ℕ)
-    → parts_size head first middle list second tail ≤ length d
-    → d1 ≡ stored d 0 (words_octets head)
-    → d2 ≡ stored d1 (length head * 4) (padded_octets first ++ words_octets middle)
-    → d3 ≡ stored d2 (length head * 4 + padded (length first) + length middle * 4) (words_octets list)
-    → d4 ≡ stored d3 (length head * 4 + padded (length first) + length middle * 4 + length list * 4) (padded_octets second ++ words_octets tail)
-    → d4 ≡ stored d 0 (parts_octets head first middle list second tail)
-unfolding parts_octets
-parts_put d head first middle list second tail d1 d2 d3 d4 room e1 e2 e3 e4 =
-    let hs : List ℕ = words_octets head in
-    let fm : List ℕ = padded_octets first ++ words_octets middle in
-    let ls : List ℕ = words_octets list in
-    let st : List ℕ = padded_octets second ++ words_octets tail in
-    let lh : length hs ≡ length head * 4 = words_length head in
-    let lf : length fm ≡ padded (length first) + length middle * 4 = length-append (padded_octets first) (words_octets middle) ∙ rw (padded_length first, words_length middle) in
-    let ll : length ls ≡ length list * 4 = words_length list in
-    let lt : length st ≡ padded (length second) + length tail * 4 = length-append (padded_octets second) (words_octets tail) ∙ rw (padded_length second, words_length tail) in
-    let l2 : length (hs ++ fm) ≡ length hs + length fm = length-append hs fm in
-    let l3 : length ((hs ++ fm) ++ ls) ≡ length (hs ++ fm) + length ls = length-append (hs ++ fm) ls in
-    let s2 : d2 ≡ stored d 0 (hs ++ fm) = e2 ∙ rw e1 (stored_next d 0 (length head * 4) hs fm (omega arith) (omega arith)) in
-    let s3 : d3 ≡ stored d 0 ((hs ++ fm) ++ ls) = e3 ∙ rw s2 (stored_next d 0 _ (hs ++ fm) ls (omega arith) (omega arith)) in
-    let s4 : d4 ≡ stored d 0 (((hs ++ fm) ++ ls) ++ st) = e4 ∙ rw s3 (stored_next d 0 _ ((hs ++ fm) ++ ls) st (omega arith) (omega arith)) in
-    s4 ∙ simp append_assoc
+pub room_start : (d : List ℕ) (ps : List Part) → Room d ps 0 (length d)
+room_start d ps = record { left = refl }
 
--- ---- words, a string, a word, octets
+module _ (d : List ℕ) (ps : List Part) (i room : ℕ) (r : Room d ps i room) where
+  module _ (q : Part) (size : ℕ) (s : size ≡ length (part_octets (get_or ps i q))) (h : i < length ps) where
+    long : length (parts_octets (drop i ps)) ≡ size + length (parts_octets (drop (i + 1) ps))
+    long = rw (next ps q i h, length-append, s) refl
 
--- how many octets they take
-abbrev pub joined_size : (head string xs : List ℕ) → ℕ
-joined_size head string xs = length head * 4 + padded (length string) + 4 + length xs
+    -- one part more has room
+    pub room_step : (n : ℕ) → n + size ≡ room → Room d ps (i + 1) n
+    room_step n e = let l = long in let k = r.left in record { left = omega arith }
 
-pub joined_length : (head string : List ℕ) (count : ℕ) (xs : List ℕ) → joined_size head string xs ≡ length (joined_octets head string count xs)
-unfolding joined_octets
-joined_length head string count xs =
-    rw (length-append, length-append, length-append, words_length head, padded_length string, octets_length 4 count) (omega arith)
+    -- or it has none, and so all have none
+    pub room_none : room < size → afterwards (Err NoRoom) d ≡ write_alone (parts_octets ps) d
+    room_none e = let l = long in let k = r.left in alone_full (parts_octets ps) d (length (parts_octets ps)) refl (omega arith)
 
--- the octets stored one behind the other
-pub joined_put : (d head string : List ℕ) (count : ℕ) (xs d1 d2 d3 d4 : List ℕ) (r1 r2 r3 : Written)
-    → joined_size head string xs ≤ length d
-    → d1 ≡ stored d 0 (words_octets head)
-    → afterwards r1 d2 ≡ write_at d1 (length head * 4) (padded_octets string)
-    → afterwards r2 d3 ≡ write_at d2 (length head * 4 + padded (length string)) (octets_of 4 count)
-    → afterwards r3 d4 ≡ write_at d3 (length head * 4 + padded (length string) + 4) xs
-    → d4 ≡ stored d 0 (joined_octets head string count xs)
-unfolding joined_octets
-joined_put d head string count xs d1 d2 d3 d4 r1 r2 r3 room e1 e2 e3 e4 =
-    let hs : List ℕ = words_octets head in
-    let ps : List ℕ = padded_octets string in
-    let cs : List ℕ = octets_of 4 count in
-    let lh : length hs ≡ length head * 4 = words_length head in
-    let lp : length ps ≡ padded (length string) = padded_length string in
-    let lc : length cs ≡ 4 = octets_length 4 count in
-    let k1 : length d1 ≡ length d = ap length e1 ∙ stored_length d 0 hs (omega arith) in
-    let w1 = wrote_fits d1 (length head * 4) ps r1 d2 e2 (omega arith) in
-    let l2 : length (hs ++ ps) ≡ length hs + length ps = length-append hs ps in
-    let l3 : length ((hs ++ ps) ++ cs) ≡ length (hs ++ ps) + length cs = length-append (hs ++ ps) cs in
-    let s2 : d2 ≡ stored d 0 (hs ++ ps) = w1.octets_are ∙ rw e1 (stored_next d 0 (length head * 4) hs ps (omega arith) (omega arith)) in
-    let k2 : length d2 ≡ length d = ap length s2 ∙ stored_length d 0 (hs ++ ps) (omega arith) in
-    let w2 = wrote_fits d2 (length head * 4 + padded (length string)) cs r2 d3 e3 (omega arith) in
-    let s3 : d3 ≡ stored d 0 ((hs ++ ps) ++ cs) = w2.octets_are ∙ rw s2 (stored_next d 0 _ (hs ++ ps) cs (omega arith) (omega arith)) in
-    let k3 : length d3 ≡ length d = ap length s3 ∙ stored_length d 0 ((hs ++ ps) ++ cs) (omega arith) in
-    let w3 = wrote_fits d3 (length head * 4 + padded (length string) + 4) xs r3 d4 e4 (omega arith) in
-    let s4 : d4 ≡ stored d 0 (((hs ++ ps) ++ cs) ++ xs) =
-    w3.octets_are ∙ rw s3 (stored_next d 0 _ ((hs ++ ps) ++ cs) xs (omega arith) (omega arith)) in
-    s4 ∙ simp append_assoc
+  -- all parts have room
+  pub room_all : length ps ≤ i → length (parts_octets ps) ≤ length d
+  room_all h = let k = r.left in let z : length (parts_octets (drop i ps)) ≡ 0 = ap length (nothing_left ps i h) in omega arith
+
+-- Parts stored up to the index i, and the offset at behind them: with those that are left, the buffer is as with all.
+pub record Putting (d₀ : List ℕ) (ps : List Part) (d : List ℕ) (i at : ℕ) : Type 0 where
+  pub room : length (parts_octets ps) ≤ length d₀
+  pub long : length d ≡ length d₀
+  pub left : at + length (parts_octets (drop i ps)) ≡ length (parts_octets ps)
+  pub all_are : stored d at (parts_octets (drop i ps)) ≡ stored d₀ 0 (parts_octets ps)
+
+-- no part yet
+pub put_start : (d : List ℕ) (ps : List Part) → length (parts_octets ps) ≤ length d → Putting d ps d 0 0
+put_start d ps h = record { room = h; long = refl; left = omega arith; all_are = refl }
+
+module _ (d₀ : List ℕ) (ps : List Part) (d : List ℕ) (i at : ℕ) (p : Putting d₀ ps d i at) where
+  module _ (q : Part) (h : i < length ps) where
+    part_room : at + length (part_octets (get_or ps i q)) + length (parts_octets (drop (i + 1) ps)) ≤ length d
+    part_room =
+        let l : length (parts_octets (drop i ps)) ≡ length (part_octets (get_or ps i q)) + length (parts_octets (drop (i + 1) ps)) = rw (next ps q i h, length-append) refl in
+        let a = p.left in
+        let b = p.room in
+        let c = p.long in
+        omega arith
+
+    -- the next part has room
+    pub put_room : (size : ℕ) → size ≡ length (part_octets (get_or ps i q)) → at + size ≤ length d
+    put_room size s = let r = part_room in omega arith
+
+    -- one part more
+    pub put_step : (e : List ℕ) (size : ℕ) → size ≡ length (part_octets (get_or ps i q)) → e ≡ stored d at (part_octets (get_or ps i q)) → Putting d₀ ps e (i + 1) (at + size)
+    put_step e size s f =
+        let xs : List ℕ = part_octets (get_or ps i q) in
+        let ys : List ℕ = parts_octets (drop (i + 1) ps) in
+        let r = part_room in
+        let l : length (parts_octets (drop i ps)) ≡ length xs + length ys = rw (next ps q i h, length-append) refl in
+        let a = p.left in
+        record {
+          room = p.room;
+          long = ap length f ∙ stored_length d at xs (omega arith) ∙ p.long;
+          left = omega arith;
+          all_are = rw (f, stored_next d at (at + size) xs ys (omega arith) (omega arith)) (ap (stored d at) (sym (next ps q i h)) ∙ p.all_are);
+        }
+
+  -- all parts
+  pub put_end : length ps ≤ i → afterwards (Ok at) d ≡ write_alone (parts_octets ps) d₀
+  put_end h =
+      let z : length (parts_octets (drop i ps)) ≡ 0 = ap length (nothing_left ps i h) in
+      let a = p.left in
+      let b = p.room in
+      alone_fits (parts_octets ps) d₀ d at (omega arith) (omega arith)
+      (sym (stored_none d at) ∙ ap (stored d at) (sym (nothing_left ps i h)) ∙ p.all_are)

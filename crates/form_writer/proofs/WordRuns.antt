@@ -5,7 +5,7 @@ use native.Mathlib.Numerals.{add-one}
 use mathlib.Core.Path.{◌≡◌, refl, sym, ap, ◌∙◌}
 use mathlib.Core.List.{List, [], ◌∷◌, ◌++◌, flat_map, append_assoc, append-nil}
 use lib.ListN.{length, get_or, take, length-append, take-append-drop}
-use lib.Seq.{take-suc, take-length, length-take-le}
+use lib.Seq.{take-suc, length-take-le}
 use Rattle.xdr.specs.Numbers.{octets_of}
 use Rattle.xdr.specs.Writes.{stored, write_at, afterwards}
 use Rattle.xdr.specs.declared.Written.{Written}
@@ -28,6 +28,10 @@ unfolding words_octets flat_map
 words_one w = append-nil (octets_of 4 w)
 
 -- a store of nothing
+pub stored_none : (d : List ℕ) (at : ℕ) → stored d at [] ≡ d
+unfolding stored
+stored_none d at = let z : at + 0 ≡ at = omega arith in rw z (take-append-drop at d)
+
 pub stored_nothing : (d : List ℕ) (at : ℕ) → stored d at (words_octets []) ≡ d
 unfolding stored words_octets flat_map
 stored_nothing d at = let z : at + 0 ≡ at = omega arith in rw z (take-append-drop at d)
@@ -47,8 +51,3 @@ words_next d now at ws i p r e room h q same f' =
     let more : words_octets (take (i + 1) ws) ≡ before ++ octets_of 4 w =
     rw (add-one, take-suc ws i 0 h) (words_append (take i ws) (w ∷ []) ∙ ap (λ (l : List ℕ). before ++ l) (words_one w)) in
     g.octets_are ∙ stored_next d at p before (octets_of 4 w) (omega arith) (omega arith) ∙ ap (stored d at) (sym more)
-
--- all words
-pub words_all : (d e : List ℕ) (at : ℕ) (ws : List ℕ) (i : ℕ) → i ≤ length ws → length ws ≤ i → e ≡ stored d at (words_octets (take i ws))
-    → e ≡ stored d at (words_octets ws)
-words_all d e at ws i h l f = let n : i ≡ length ws = omega arith in f ∙ ap (λ (v : List ℕ). stored d at (words_octets v)) (rw n (take-length ws))

@@ -9,11 +9,12 @@ use mathlib.Core.Option.{Option, some}
 use lib.ListN.{length, length-append}
 use lib.Dec.{leb}
 use borrow.Author.Tests.{leb-true, leb-false}
+use Rattle.std.specs.Prelude.{Result, Err}
 use Rattle.xdr.specs.Writes.{stored, Afterwards, afterwards}
 use Rattle.sflow.specs.Grammar.{Value, Valid, Each, encode}
 use Rattle.sflow.specs.Datagram.{sample_type, sample_datagram, samples}
-use Rattle.form_writer.specs.declared.parts.WriteAnswer.{WriteAnswer}
-use Rattle.form_writer.specs.declared.parts.WriteAnswer.TheVariants.{NoRoom}
+use Rattle.form_writer.specs.declared.parts.WriteRefusal.{WriteRefusal}
+use Rattle.form_writer.specs.declared.parts.WriteRefusal.TheVariants.{NoRoom}
 use Rattle.fields.specs.declared.address.Address.{Address}
 use Rattle.writer.specs.Datagrams.{limit_allowed, start_value, started, with_samples}
 use Rattle.writer.proofs.Theorems.{holds, encoded_length, flat_append, flat_one, append_fits, append_full, start_short, start_holds}
@@ -55,13 +56,13 @@ first_length w ws = length-append (encode sample_type w) (flat_map (encode sampl
 -- ---- samples appended one behind the other
 
 -- once there is no room, nothing more is written
-stays_full : (limit : ℕ) (d : List ℕ) (xs : List (Option (Value sample_type))) → append_each limit (afterwards NoRoom d) xs ≡ afterwards NoRoom d
+stays_full : (limit : ℕ) (d : List ℕ) (xs : List (Option (Value sample_type))) → append_each limit (afterwards (Err NoRoom) d) xs ≡ afterwards (Err NoRoom) d
 stays_full limit d [] = refl
 stays_full limit d (x ∷ xs) = stays_full limit d xs
 
 module _ (limit : ℕ) (d : List ℕ) (allowed : limit_allowed limit (length d) ≡ true) (v : Value sample_datagram) where
   -- what appending samples leaves behind those that are there
-  abbrev appended_to : List (Value sample_type) → List (Value sample_type) → Afterwards WriteAnswer
+  abbrev appended_to : List (Value sample_type) → List (Value sample_type) → Afterwards (Result ℕ WriteRefusal)
   appended_to xs ws = append_each limit (holds d (with_samples v xs)) (map some ws)
 
   -- the octets of a datagram with these samples
@@ -80,14 +81,14 @@ module _ (limit : ℕ) (d : List ℕ) (allowed : limit_allowed limit (length d) 
     one_fits : length (octets_with (xs ++ (w ∷ []))) ≤ limit → appended_to xs (w ∷ ws) ≡ appended_to (xs ++ (w ∷ [])) ws
     one_fits fits =
         let l = one_longer xs w in
-        ap (λ (o : Afterwards WriteAnswer). append_each limit o (map some ws))
+        ap (λ (o : Afterwards (Result ℕ WriteRefusal)). append_each limit o (map some ws))
         (append_fits limit d allowed (with_samples v xs) (valid_front v xs (w ∷ ws) h) small w valid (omega arith))
 
     -- one that does not fit
-    one_full : limit < length (octets_with (xs ++ (w ∷ []))) → appended_to xs (w ∷ ws) ≡ afterwards NoRoom (stored d 0 (octets_with xs))
+    one_full : limit < length (octets_with (xs ++ (w ∷ []))) → appended_to xs (w ∷ ws) ≡ afterwards (Err NoRoom) (stored d 0 (octets_with xs))
     one_full full =
         let l = one_longer xs w in
-        ap (λ (o : Afterwards WriteAnswer). append_each limit o (map some ws))
+        ap (λ (o : Afterwards (Result ℕ WriteRefusal)). append_each limit o (map some ws))
         (append_full limit d allowed (with_samples v xs) (valid_front v xs (w ∷ ws) h) small w valid (omega arith))
         ∙ stays_full limit (stored d 0 (octets_with xs)) (map some ws)
 
@@ -103,14 +104,14 @@ module _ (limit : ℕ) (d : List ℕ) (allowed : limit_allowed limit (length d) 
       one_fits xs w ws h (omega arith) (omega arith) ∙ rw assoc at (append_all (xs ++ (w ∷ [])) ws (rw assoc h) (rw assoc fits))
 
   -- where they do not all fit, one gets no room, and the samples before it are there
-  record Full (xs ws : List (Value sample_type)) (o : Afterwards WriteAnswer) : Type 0 where
+  record Full (xs ws : List (Value sample_type)) (o : Afterwards (Result ℕ WriteRefusal)) : Type 0 where
     before : List (Value sample_type)
     next : Value sample_type
     behind : List (Value sample_type)
     split : xs ++ ws ≡ before ++ (next ∷ behind)
     fits : length (octets_with before) ≤ limit
     full : limit < length (octets_with (before ++ (next ∷ [])))
-    left : o ≡ afterwards NoRoom (stored d 0 (octets_with before))
+    left : o ≡ afterwards (Err NoRoom) (stored d 0 (octets_with before))
 
   append_stops : (xs ws : List (Value sample_type)) → Valid sample_datagram (with_samples v (xs ++ ws)) → length (octets_with xs) ≤ limit
       → limit < length (octets_with (xs ++ ws)) → Full xs ws (appended_to xs ws)
@@ -153,7 +154,7 @@ module _ (v : Value sample_datagram) (valid : Valid sample_datagram v) (limit : 
   written_is : append_each limit (started limit agent sequence uptime d) given ≡ appended_to limit d allowed v [] (samples v)
   written_is =
       let t = start_holds limit d allowed agent sequence uptime start_valid ∙ ap (holds d) head in
-      rw all (ap (λ (o : Afterwards WriteAnswer). append_each limit o (map some (samples v))) t)
+      rw all (ap (λ (o : Afterwards (Result ℕ WriteRefusal)). append_each limit o (map some (samples v))) t)
 
   -- the same octets at the buffer's beginning where they fit the limit, and the rest of the buffer as it was
   pub all_written : length (encode sample_datagram v) ≤ limit → append_each limit (started limit agent sequence uptime d) given ≡ holds d v

@@ -8,6 +8,7 @@ use mathlib.Core.Option.{some}
 use lib.ListN.{length, replicate}
 use lib.Seq.{take_at}
 use borrow.Author.Tests.{le-leb}
+use Rattle.std.specs.Prelude.{Ok}
 use Rattle.xdr.specs.Numbers.{Octets}
 use Rattle.xdr.specs.Writes.{stored, afterwards}
 use Rattle.sflow.specs.Grammar.{Value, encode}
@@ -29,7 +30,6 @@ use Rattle.reader.specs.declared.sample.SampleValues.{SampleValues}
 use Rattle.reader.specs.declared.sample.SampleValues.TheVariants.{Flow, Counters}
 use Rattle.reader.specs.Samples.{sample_of}
 use Rattle.reader.specs.Datagrams.{datagram_of}
-use Rattle.form_writer.specs.declared.parts.WriteAnswer.TheVariants.{Done}
 use Rattle.form_writer.specs.Values.{gateway_given}
 use Rattle.sample_writer.specs.FlowValues.{flow_given}
 use Rattle.sample_writer.specs.CounterValues.{counters_value}
@@ -145,7 +145,7 @@ module _ (s : List ℕ) (octets : Octets s) (v : Value sample_datagram) (accepte
   called = all_called s octets (16 + size address (agent_address v)) (samples v) (length s) (first_within s octets v accepted) (samples_end_to_end s octets v accepted)
 
   module _ (limit : ℕ) (d : List ℕ) (allowed : limit_allowed limit (length d) ≡ true) where
-    pub same_octets_by_calls : length s ≤ limit → rewritten_by_calls s limit d ≡ some (afterwards (Done (length s)) (stored d 0 s))
+    pub same_octets_by_calls : length s ≤ limit → rewritten_by_calls s limit d ≡ some (afterwards (Ok (length s)) (stored d 0 s))
     unfolding rewritten_by_calls
     same_octets_by_calls fits =
         let e = octets_are s octets v accepted in
@@ -154,7 +154,7 @@ module _ (s : List ℕ) (octets : Octets s) (v : Value sample_datagram) (accepte
         rw accepted
         (ap some
         (all_written v h limit d allowed _ _ _ (head_again v h) _ called (omega arith)
-        ∙ ap (λ (xs : List ℕ). afterwards (Done (length xs)) (stored d 0 xs)) (sym e)))
+        ∙ ap (λ (xs : List ℕ). afterwards (Ok (length xs)) (stored d 0 xs)) (sym e)))
 
     pub never_more_by_calls : limit < length s → StoppedByCalls s v limit d
     unfolding rewritten_by_calls

@@ -8,6 +8,7 @@ use mathlib.Core.Option.{some}
 use lib.ListN.{length}
 use lib.Dec.{eqb}
 use borrow.Author.Tests.{eqb-true}
+use Rattle.std.specs.Prelude.{Ok}
 use Rattle.xdr.specs.Numbers.{Octets}
 use Rattle.xdr.specs.Writes.{stored, afterwards}
 use Rattle.xdr.proofs.Tests.{is_true}
@@ -22,7 +23,6 @@ use Rattle.fields.specs.Parts.{item, size}
 use Rattle.fields.specs.Addresses.{address_of}
 use Rattle.reader.specs.Datagrams.{datagram_of, samples_from}
 use Rattle.reader.proofs.Walks.{walk_samples}
-use Rattle.form_writer.specs.declared.parts.WriteAnswer.TheVariants.{Done}
 use Rattle.form_writer.specs.Values.{address_value}
 use Rattle.writer.specs.Datagrams.{limit_allowed, start_value, with_samples}
 use Rattle.writer.proofs.Theorems.{encoded_total}
@@ -83,13 +83,13 @@ module _ (s : List ℕ) (octets : Octets s) (v : Value sample_datagram) (accepte
   walked = all_given s octets (16 + size address (agent_address v)) (samples v) (length s) first_within (samples_end_to_end s octets v accepted)
 
   module _ (limit : ℕ) (d : List ℕ) (allowed : limit_allowed limit (length d) ≡ true) where
-    pub same_octets : length s ≤ limit → rewritten s (datagram_of v) limit d ≡ afterwards (Done (length s)) (stored d 0 s)
+    pub same_octets : length s ≤ limit → rewritten s (datagram_of v) limit d ≡ afterwards (Ok (length s)) (stored d 0 s)
     unfolding rewritten
     same_octets fits =
         let l : length s ≡ length (encode sample_datagram v) = ap length octets_are in
         rw (walk_samples s octets v accepted)
         (all_written v all_valid limit d allowed _ _ _ (head_again v all_valid) _ walked (omega arith)
-        ∙ ap (λ (xs : List ℕ). afterwards (Done (length xs)) (stored d 0 xs)) (sym octets_are))
+        ∙ ap (λ (xs : List ℕ). afterwards (Ok (length xs)) (stored d 0 xs)) (sym octets_are))
 
     pub never_more : limit < length s → Stopped v limit d (rewritten s (datagram_of v) limit d)
     unfolding rewritten

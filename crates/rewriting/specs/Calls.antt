@@ -1,5 +1,5 @@
 -- The same with the functions that C and Rust call: the numbers that the reading calls tell of a datagram are given to the writing calls.
-use Rattle.std.specs.Prelude.{ℕ, zero, suc, ◌+◌, ◌≡◌, cond, List, [], ◌∷◌, ◌++◌, take, drop, eqb}
+use Rattle.std.specs.Prelude.{ℕ, zero, suc, ◌+◌, ◌≡◌, cond, List, [], ◌∷◌, ◌++◌, take, drop, eqb, Result}
 use Rattle.std.proofs.Math.Option.{Option, none, some}
 use Rattle.xdr.specs.Writes.{Afterwards}
 use Rattle.sflow.specs.Grammar.{Value}
@@ -12,7 +12,7 @@ use Rattle.fields.specs.Strings.{text_in}
 use Rattle.extended_data.specs.ExtendedData.{segment_of, as_segment, extended_of, as_extended}
 use Rattle.reader.specs.Samples.{sample_of, as_sample}
 use Rattle.reader.specs.Datagrams.{datagram_read}
-use Rattle.form_writer.specs.declared.parts.WriteAnswer.{WriteAnswer}
+use Rattle.form_writer.specs.declared.parts.WriteRefusal.{WriteRefusal}
 use Rattle.form_writer.specs.Values.{header_value}
 use Rattle.sample_writer.specs.CounterValues.{counters_value}
 use Rattle.writer.specs.Datagrams.{started}
@@ -88,7 +88,7 @@ samples_called s (suc n) at =
 -- ---- a datagram
 
 -- sflow4_read, sflow4_start with the head told, and the appends
-unfoldable pub rewritten_by_calls : List ℕ → ℕ → List ℕ → Option (Afterwards WriteAnswer)
+unfoldable pub rewritten_by_calls : List ℕ → ℕ → List ℕ → Option (Afterwards (Result ℕ WriteRefusal))
 rewritten_by_calls s limit d =
     told0 (head_report (datagram_read s)) none λ ns.
     some
@@ -97,6 +97,6 @@ rewritten_by_calls s limit d =
 
 -- writing again stopped for want of room
 pub record StoppedByCalls (s : List ℕ) (v : Value sample_datagram) (limit : ℕ) (d : List ℕ) : Type 0 where
-  pub left : Afterwards WriteAnswer
+  pub left : Afterwards (Result ℕ WriteRefusal)
   pub written : rewritten_by_calls s limit d ≡ some left
   pub stopped : Stopped v limit d left

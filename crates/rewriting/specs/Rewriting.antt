@@ -1,6 +1,6 @@
 -- A datagram written again from what the reader gives of it (demand 2): start with its head, and an append of the values of each sample that the walk
 -- over it meets.
-use Rattle.std.specs.Prelude.{ℕ, ◌-◌, ◌≤◌, ◌<◌, ◌≡◌, List, [], ◌∷◌, ◌++◌, map, length}
+use Rattle.std.specs.Prelude.{ℕ, ◌-◌, ◌≤◌, ◌<◌, ◌≡◌, List, [], ◌∷◌, ◌++◌, map, length, Result, Ok, Err}
 use Rattle.std.proofs.Math.Option.{Option, some}
 use Rattle.xdr.specs.Writes.{stored, Afterwards, afterwards}
 use Rattle.sflow.specs.Grammar.{Value, encode}
@@ -11,8 +11,8 @@ use Rattle.reader.specs.declared.sample.SampleValues.{SampleValues}
 use Rattle.reader.specs.declared.sample.SampleValues.TheVariants.{Flow, Counters}
 use Rattle.reader.specs.declared.datagram.Head.{Head}
 use Rattle.reader.specs.Datagrams.{walk}
-use Rattle.form_writer.specs.declared.parts.WriteAnswer.{WriteAnswer}
-use Rattle.form_writer.specs.declared.parts.WriteAnswer.TheVariants.{Done, BadLimit, BadDatagram, BadValue, NoRoom}
+use Rattle.form_writer.specs.declared.parts.WriteRefusal.{WriteRefusal}
+use Rattle.form_writer.specs.declared.parts.WriteRefusal.TheVariants.{NoRoom}
 use Rattle.sample_writer.specs.FlowValues.{flow_given}
 use Rattle.sample_writer.specs.CounterValues.{counters_value}
 use Rattle.writer.specs.Datagrams.{started, appended, with_samples}
@@ -28,30 +28,27 @@ sample_given s (Counters x) =
     (counters_found (decode counters_type s (x.counters.at - 4))))
 
 -- a sample appended behind what an answer left, where it is no refusal
-abbrev pub append_behind : ℕ → Option (Value sample_type) → Afterwards WriteAnswer → Afterwards WriteAnswer
-append_behind limit x (afterwards (Done n) d) = appended x limit n d
-append_behind limit x (afterwards BadLimit d) = afterwards BadLimit d
-append_behind limit x (afterwards BadDatagram d) = afterwards BadDatagram d
-append_behind limit x (afterwards BadValue d) = afterwards BadValue d
-append_behind limit x (afterwards NoRoom d) = afterwards NoRoom d
+abbrev pub append_behind : ℕ → Option (Value sample_type) → Afterwards (Result ℕ WriteRefusal) → Afterwards (Result ℕ WriteRefusal)
+append_behind limit x (afterwards (Ok n) d) = appended x limit n d
+append_behind limit x (afterwards (Err why) d) = afterwards (Err why) d
 
 -- samples appended one behind the other
-abbrev pub append_each : ℕ → Afterwards WriteAnswer → List (Option (Value sample_type)) → Afterwards WriteAnswer
+abbrev pub append_each : ℕ → Afterwards (Result ℕ WriteRefusal) → List (Option (Value sample_type)) → Afterwards (Result ℕ WriteRefusal)
 append_each limit o [] = o
 append_each limit o (x ∷ xs) = append_each limit (append_behind limit x o) xs
 
 -- a datagram with this head, written again to a buffer
-unfoldable pub rewritten : List ℕ → Head → ℕ → List ℕ → Afterwards WriteAnswer
+unfoldable pub rewritten : List ℕ → Head → ℕ → List ℕ → Afterwards (Result ℕ WriteRefusal)
 rewritten s h limit d =
     append_each limit (started limit h.agent h.sequence_number h.uptime d)
     (map (λ x. sample_given s x.values) (walk s h.samples.count h.samples.at).met)
 
 -- what is left of a buffer where writing stopped for want of room: the samples written before, the one that did not fit, and those behind it
-pub record Stopped (v : Value sample_datagram) (limit : ℕ) (d : List ℕ) (left : Afterwards WriteAnswer) : Type 0 where
+pub record Stopped (v : Value sample_datagram) (limit : ℕ) (d : List ℕ) (left : Afterwards (Result ℕ WriteRefusal)) : Type 0 where
   pub before : List (Value sample_type)
   pub next : Value sample_type
   pub behind : List (Value sample_type)
   pub split : samples v ≡ before ++ (next ∷ behind)
   pub fits : length (encode sample_datagram (with_samples v before)) ≤ limit
   pub full : limit < length (encode sample_datagram (with_samples v (before ++ (next ∷ []))))
-  pub left_so : left ≡ afterwards NoRoom (stored d 0 (encode sample_datagram (with_samples v before)))
+  pub left_so : left ≡ afterwards (Err NoRoom) (stored d 0 (encode sample_datagram (with_samples v before)))

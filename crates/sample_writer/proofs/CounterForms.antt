@@ -5,12 +5,13 @@ use mathlib.Core.Bool.{true, false, ◌&&◌}
 use mathlib.Core.List.{List, [], ◌∷◌, ◌++◌, flat_map, append_assoc}
 use mathlib.Core.Option.{some}
 use borrow.Author.Tests.{lt-ltb}
+use Rattle.std.specs.Prelude.{Result, Err}
 use Rattle.xdr.specs.Writes.{afterwards}
 use Rattle.sflow.specs.Grammar.{listed, octets_of_each, encode, each_fits, allows}
 use Rattle.sflow.specs.Datagram.{counters_versions, sample_type}
 use Rattle.counter_data.proofs.Bodies.{widths_of}
-use Rattle.form_writer.specs.declared.parts.WriteAnswer.{WriteAnswer}
-use Rattle.form_writer.specs.declared.parts.WriteAnswer.TheVariants.{BadValue}
+use Rattle.form_writer.specs.declared.parts.WriteRefusal.{WriteRefusal}
+use Rattle.form_writer.specs.declared.parts.WriteRefusal.TheVariants.{BadValue}
 use Rattle.form_writer.specs.Parts.{write_value, write_given, words_octets}
 use Rattle.sample_writer.specs.CounterValues.{counters_value}
 
@@ -27,7 +28,7 @@ module _ (d : List ℕ) (a b c v : ℕ) (ns : List ℕ) (i : a < 2 ^ 32) (j : b 
   counters_allowed = rw (lt-ltb a (2 ^ 32) i, lt-ltb b (2 ^ 32) j, lt-ltb c (2 ^ 32) k, lt-ltb v (2 ^ 32) l)
 
   -- a write of the numbers in the widths of the version n is one of the version v, which is n
-  pub counters_arm : (n : ℕ) (e : List ℕ) (r : WriteAnswer) → v ≡ n → listed counters_versions n ≡ true
+  pub counters_arm : (n : ℕ) (e : List ℕ) (r : Result ℕ WriteRefusal) → v ≡ n → listed counters_versions n ≡ true
       → afterwards r e ≡ write_value (each_fits (widths_of n) ns) (words_octets (2 ∷ a ∷ b ∷ c ∷ v ∷ []) ++ octets_of_each (widths_of n) ns) d
       → afterwards r e ≡ write_given sample_type (some (counters_value a b c v ns)) d
   counters_arm n e r s h q =
@@ -37,5 +38,5 @@ module _ (d : List ℕ) (a b c v : ℕ) (ns : List ℕ) (i : a < 2 ^ 32) (j : b 
       ∙ rw (counters_allowed, t, counters_octets a b c v ns)
 
   -- a version that is none of the seven changes nothing
-  pub counters_none : listed counters_versions v ≡ false → afterwards BadValue d ≡ write_given sample_type (some (counters_value a b c v ns)) d
+  pub counters_none : listed counters_versions v ≡ false → afterwards (Err BadValue) d ≡ write_given sample_type (some (counters_value a b c v ns)) d
   counters_none h = rw (counters_allowed, h)

@@ -1,33 +1,22 @@
 -- Numbers that fit their widths, tested one by one. Assumes nothing.
-use Prim.Native.Nat.{ℕ, suc, ◌+◌, ◌^◌, ◌≤◌, ◌<◌}
+use Prim.Native.Nat.{ℕ, suc, ◌+◌, ◌<◌}
 use native.Mathlib.Numerals.{add-one}
-use native.Mathlib.Omega.{arith}
-use mathlib.Core.Path.{◌≡◌, refl, sym, ap}
+use mathlib.Core.Path.{◌≡◌, refl, ap}
 use mathlib.Core.Logic.{inl, inr, ⊎_elim}
-use mathlib.Core.Bool.{Bool, true, false, cond, ◌&&◌, ◌||◌}
+use mathlib.Core.Bool.{Bool, true, false, cond, ◌||◌}
 use mathlib.Core.List.{List, [], ◌∷◌}
-use lib.ListN.{length, get_or, drop, drop_of_length-le}
+use lib.ListN.{length, get_or, drop}
 use lib.Seq.{drop-cons}
-use lib.Dec.{T, eqb, ltb}
-use borrow.Author.Tests.{eqb-true, lt-ltb}
+use lib.Dec.{T, eqb}
+use borrow.Author.Tests.{eqb-true}
 use Rattle.sflow.specs.Grammar.{Fits, Each, each_fits}
 use Rattle.sflow.proofs.Allows.{fits_exactly}
 use Rattle.counter_data.specs.CounterBodies.{words_and_hypers}
 use Rattle.sample_writer.specs.CounterValues.{WordOrHyper}
 
--- ---- one number
-
--- every number of 64 bits fits the width of a hyper
-pub hyper_fits : (w v : ℕ) → w ≡ 8 → v < 18446744073709551616 → true ≡ ltb v (256 ^ w)
-hyper_fits w v e h = rw e (sym (lt-ltb v 18446744073709551616 h))
-
 -- a width of a word or a hyper that is not a hyper's is a word's
 pub word_width : (w : ℕ) → WordOrHyper w → (w ≡ 8 → ⊥) → w ≡ 4
 word_width w k n = ⊎_elim (λ e. e) (λ e. absurd (n e)) k
-
--- the test whether a number fits the width of a word
-pub word_fits : (w v : ℕ) → w ≡ 4 → ltb v 4294967296 ≡ ltb v (256 ^ w)
-word_fits w v e = rw e
 
 -- ---- widths
 
@@ -66,24 +55,3 @@ other_length ws ns n = go (each_fits ws ns) refl
     go : (b : Bool) → each_fits ws ns ≡ b → false ≡ b
     go true e = absurd (n (fits_length ws ns (fits_told ws ns e)))
     go false e = refl
-
--- ---- the loop of the test
-
--- the test from an index on is that of the number there, and then of those behind it
-fit_first : (ws ns : List ℕ) (i : ℕ) → i < length ws → length ns ≡ length ws
-    → each_fits (drop i ws) (drop i ns) ≡ (ltb (get_or ns i 0) (256 ^ get_or ws i 0) && each_fits (drop (i + 1) ws) (drop (i + 1) ns))
-fit_first ws ns i h e = let k : i < length ns = omega arith in rw (add-one, drop-cons ws i 0 h, drop-cons ns i 0 k)
-
--- a number that fits leaves those behind it to test
-pub fit_more : (ws ns : List ℕ) (i : ℕ) → i < length ws → length ns ≡ length ws → ltb (get_or ns i 0) (256 ^ get_or ws i 0) ≡ true
-    → each_fits (drop (i + 1) ws) (drop (i + 1) ns) ≡ each_fits (drop i ws) (drop i ns)
-fit_more ws ns i h e t = rw (fit_first ws ns i h e, t)
-
--- a number that does not fit ends the test
-pub fit_stop : (ws ns : List ℕ) (i : ℕ) → i < length ws → length ns ≡ length ws → ltb (get_or ns i 0) (256 ^ get_or ws i 0) ≡ false
-    → false ≡ each_fits (drop i ws) (drop i ns)
-fit_stop ws ns i h e t = rw (fit_first ws ns i h e, t)
-
--- behind the last number nothing is left to test
-pub fit_end : (ws ns : List ℕ) (i : ℕ) → length ws ≤ i → length ns ≡ length ws → true ≡ each_fits (drop i ws) (drop i ns)
-fit_end ws ns i h e = let k : length ns ≤ i = omega arith in rw (drop_of_length-le ws h, drop_of_length-le ns k)

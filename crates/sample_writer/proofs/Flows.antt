@@ -2,49 +2,48 @@
 use Prim.Native.Nat.{ℕ, ◌^◌, ◌<◌}
 use native.Mathlib.Omega.{arith}
 use Prim.{tt}
-use mathlib.Core.Path.{◌≡◌, refl, sym}
+use mathlib.Core.Path.{◌≡◌, refl}
 use mathlib.Core.Logic.{◌↔◌}
 use mathlib.Core.Bool.{Bool, true, false}
-use mathlib.Core.List.{List, [], ◌∷◌, ◌++◌, flat_map, append_assoc, append-nil}
+use mathlib.Core.List.{List, [], ◌++◌, flat_map, append_assoc, append-nil}
 use mathlib.Core.Option.{Option, none, some}
 use lib.ListN.{length}
 use lib.Dec.{eqb}
 use borrow.Author.Tests.{eqb-true, eqb-false}
-use Rattle.xdr.specs.Numbers.{Octets, octets_of}
-use Rattle.xdr.specs.Writes.{padded_octets, afterwards}
+use Rattle.std.specs.Prelude.{Result, Err}
+use Rattle.xdr.specs.Numbers.{Octets}
+use Rattle.xdr.specs.Writes.{afterwards}
 use Rattle.sflow.specs.declared.Refusal.{Refusal}
 use Rattle.sflow.specs.Grammar.{Value, Fits, Each, Valid, octets_of_each, encode}
 use Rattle.sflow.specs.Decode.{entries, decode, entries_in}
 use Rattle.sflow.specs.Datagram.{packet_data_type, extended_data_type, flow_words, sample_type}
 use Rattle.sflow.proofs.Exact.{entries_in_exactly}
-use Rattle.sflow.proofs.Fours.{packet_four}
 use Rattle.fields.specs.declared.runs.Passed.TheVariants.{Next, Refused}
 use Rattle.fields.specs.Parts.{as_passed}
 use Rattle.reader.specs.declared.sample.FlowWords.{FlowWords}
-use Rattle.form_writer.specs.declared.parts.WriteAnswer.{WriteAnswer}
-use Rattle.form_writer.specs.declared.parts.WriteAnswer.TheVariants.{BadValue}
-use Rattle.form_writer.specs.Parts.{write_value, write_given, words_octets, joined_octets}
+use Rattle.form_writer.specs.declared.parts.WriteRefusal.{WriteRefusal}
+use Rattle.form_writer.specs.declared.parts.WriteRefusal.TheVariants.{BadValue}
+use Rattle.form_writer.specs.Parts.{write_value, write_given, words_octets}
 use Rattle.form_writer.proofs.Allowances.{not_allowed, value_written}
 use Rattle.form_writer.proofs.Allowed.{entries_there, entries_elsewhere, entries_nowhere}
-use Rattle.form_writer.proofs.PathOctets.{padded_whole, nothing_padded}
-use Rattle.sample_writer.specs.FlowValues.{flow_words_value, flow_value, flow_given, is_given}
+use Rattle.sample_writer.specs.FlowValues.{flow_words_value, flow_value, flow_given, flow_octets, is_given}
 
 -- ---- values
 
 -- a flow sample that the grammar allows has packet data that it allows
 pub packet_bad : (w : FlowWords) (p : Value packet_data_type) (x : Option (List (Value extended_data_type))) (d : List ℕ)
-    → (Valid packet_data_type p → ⊥) → afterwards BadValue d ≡ write_given sample_type (flow_given w (some p) x) d
+    → (Valid packet_data_type p → ⊥) → afterwards (Err BadValue) d ≡ write_given sample_type (flow_given w (some p) x) d
 packet_bad w p none d n = refl
 packet_bad w p (some es) d n = not_allowed sample_type (flow_value w p es) d (λ h. n h.2.1.0)
 
 -- without packet data nothing is written
 pub packet_none : (w : FlowWords) (p : Option (Value packet_data_type)) (x : Option (List (Value extended_data_type))) (d : List ℕ)
-    → p ≡ none → afterwards BadValue d ≡ write_given sample_type (flow_given w p x) d
+    → p ≡ none → afterwards (Err BadValue) d ≡ write_given sample_type (flow_given w p x) d
 packet_none w p x d e = rw e
 
 -- packet data that were found to be given
 pub packet_given : (w : FlowWords) (x : Option (Value packet_data_type)) (p : Value packet_data_type) (es : Option (List (Value extended_data_type)))
-    (d e : List ℕ) (r : WriteAnswer) → x ≡ some p → afterwards r e ≡ write_given sample_type (flow_given w (some p) es) d
+    (d e : List ℕ) (r : Result ℕ WriteRefusal) → x ≡ some p → afterwards r e ≡ write_given sample_type (flow_given w (some p) es) d
     → afterwards r e ≡ write_given sample_type (flow_given w x es) d
 packet_given w x p es d e r given f = rw given f
 
@@ -64,30 +63,16 @@ module _ (count : ℕ) (xs : List ℕ) where
 
 -- ---- parts
 
--- the type word and the words of a flow sample
-abbrev flow_head : FlowWords → List ℕ
-flow_head w = 1 ∷ flow_words_value w
+-- the same as parts one behind the other
+pub parts_are : (head packet rest count xs : List ℕ)
+    → head ++ (packet ++ (rest ++ (count ++ (xs ++ [])))) ≡ head ++ ((packet ++ rest) ++ (count ++ xs))
+parts_are head packet rest count xs = simp (append_assoc, append-nil)
 
-words_append : (ws vs : List ℕ) → words_octets (ws ++ vs) ≡ words_octets ws ++ words_octets vs
-unfolding words_octets flat_map
-words_append [] vs = refl
-words_append (w ∷ ws) vs = rw (words_append ws vs) (sym (append_assoc (octets_of 4 w) (words_octets ws) (words_octets vs)))
-
-head_octets : (w : FlowWords) → words_octets (flow_head w) ≡ octets_of 4 1 ++ octets_of_each flow_words (flow_words_value w)
-unfolding words_octets flat_map octets_of_each
-head_octets w = refl
-
-nothing_octets : words_octets [] ≡ []
-unfolding words_octets flat_map
-nothing_octets = refl
-
--- the octets of a flow sample: its words, those of the packet data and their string, the count of the entries and the entries
-flow_octets : (w : FlowWords) (p : Value packet_data_type) (es : List (Value extended_data_type)) (ws string : List ℕ)
-    → words_octets ws ++ padded_octets string ≡ encode packet_data_type p
-    → joined_octets (flow_head w ++ ws) string (length es) (flat_map (encode extended_data_type) es) ≡ encode sample_type (flow_value w p es)
-unfolding joined_octets encode
-flow_octets w p es ws string same =
-    rw (words_append (flow_head w) ws, head_octets w, ← same) (simp append_assoc)
+-- the octets of a flow sample of values
+flow_encoded : (w : FlowWords) (p : Value packet_data_type) (es : List (Value extended_data_type))
+    → flow_octets w (encode packet_data_type p) (length es) (flat_map (encode extended_data_type) es) ≡ encode sample_type (flow_value w p es)
+unfolding words_octets flat_map octets_of_each encode
+flow_encoded w p es = simp (append_assoc, append-nil)
 
 -- every word of a flow sample fits
 pub record FlowFits (w : FlowWords) : Type 0 where
@@ -102,30 +87,31 @@ pub record FlowFits (w : FlowWords) : Type 0 where
 flow_fits : (w : FlowWords) → FlowFits w → Fits flow_words (flow_words_value w)
 flow_fits w f = (f.sequence, (f.source, (f.rate, (f.pool, (f.drops, (f.input, (f.output, tt)))))))
 
--- what is answered of a flow sample with packet data p, whose octets are words and a string
-module _ (w : FlowWords) (fit : FlowFits w) (p : Value packet_data_type) (valid : Valid packet_data_type p) (ws string : List ℕ)
-    (same : words_octets ws ++ padded_octets string ≡ encode packet_data_type p) (count : ℕ) (few : count < 2 ^ 32) (extended : List ℕ) (octets : Octets extended)
-    (d e : List ℕ) (r : WriteAnswer) where
+-- what is answered of a flow sample with the octets of packet data p
+module _ (w : FlowWords) (fit : FlowFits w) (p : Value packet_data_type) (valid : Valid packet_data_type p) (packet : List ℕ)
+    (same : packet ≡ encode packet_data_type p) (count : ℕ) (few : count < 2 ^ 32) (extended : List ℕ) (octets : Octets extended)
+    (d e : List ℕ) (r : Result ℕ WriteRefusal) where
   pub flow_put : afterwards r e
-      ≡ write_value (is_given (entries_in extended_data_type count extended)) (joined_octets (flow_head w ++ ws) string count extended) d
+      ≡ write_value (is_given (entries_in extended_data_type count extended)) (flow_octets w packet count extended) d
       → afterwards r e ≡ write_given sample_type (flow_given w (some p) (entries_in extended_data_type count extended)) d
   flow_put f = go (entries_in extended_data_type count extended) (entries_in_exactly extended_data_type count extended octets) f
     where
       go : (x : Option (List (Value extended_data_type)))
           → ((es : List (Value extended_data_type)) → (x ≡ some es) ↔ ((length es ≡ count) × Each (Valid extended_data_type) es × (extended ≡ flat_map (encode extended_data_type) es)))
-          → afterwards r e ≡ write_value (is_given x) (joined_octets (flow_head w ++ ws) string count extended) d
+          → afterwards r e ≡ write_value (is_given x) (flow_octets w packet count extended) d
           → afterwards r e ≡ write_given sample_type (flow_given w (some p) x) d
       go none exact g = g
       go (some es) exact g =
           let t = (exact es).0 refl in
           let many : length es < 2 ^ 32 = rw t.0 few in
-          let whole : joined_octets (flow_head w ++ ws) string count extended ≡ encode sample_type (flow_value w p es) =
-          rw (t.2, ← t.0) (flow_octets w p es ws string same) in
+          let whole : flow_octets w packet count extended ≡ encode sample_type (flow_value w p es) =
+          rw (same, t.2, ← t.0) (flow_encoded w p es) in
           value_written sample_type (flow_value w p es) _ d e r (omega arith, tt, (flow_fits w fit, (valid, (many, t.1)))) whole g
 
--- words alone, and octets that are exactly one value
-pub words_alone : (ws : List ℕ) (p : Value packet_data_type) → words_octets ws ≡ encode packet_data_type p → words_octets ws ++ padded_octets [] ≡ encode packet_data_type p
-words_alone ws p e = rw (nothing_padded, append-nil) e
+-- octets that are exactly one value
+nothing_octets : words_octets [] ≡ []
+unfolding words_octets flat_map
+nothing_octets = refl
 
-pub octets_alone : (xs : List ℕ) (p : Value packet_data_type) → xs ≡ encode packet_data_type p → words_octets [] ++ padded_octets xs ≡ encode packet_data_type p
-octets_alone xs p e = rw (nothing_octets, e) (padded_whole (encode packet_data_type p) (packet_four p))
+pub octets_alone : (xs : List ℕ) (p : Value packet_data_type) → xs ≡ encode packet_data_type p → words_octets [] ++ xs ≡ encode packet_data_type p
+octets_alone xs p e = rw (nothing_octets, e) refl

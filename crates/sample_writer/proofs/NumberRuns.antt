@@ -7,6 +7,7 @@ use mathlib.Core.List.{List, ◌++◌, flat_map}
 use mathlib.Core.Bool.{true, false}
 use lib.ListN.{length, get_or, drop, length-append, drop_of_length-le}
 use lib.Seq.{drop-cons}
+use Rattle.std.specs.Prelude.{Result, Ok, Err}
 use Rattle.xdr.specs.Numbers.{octets_of}
 use Rattle.xdr.specs.Items.{total_width}
 use Rattle.xdr.specs.Writes.{stored, write_at, afterwards}
@@ -15,8 +16,8 @@ use Rattle.xdr.proofs.Octets.{octets_length}
 use Rattle.xdr.proofs.Writing.{stored_next, stored_length, wrote_fits, wrote_length}
 use Rattle.sflow.specs.Grammar.{Fits, Each, each_fits, octets_of_each}
 use Rattle.sflow.proofs.Items.{each_length}
-use Rattle.form_writer.specs.declared.parts.WriteAnswer.{WriteAnswer}
-use Rattle.form_writer.specs.declared.parts.WriteAnswer.TheVariants.{Done, BadValue, NoRoom}
+use Rattle.form_writer.specs.declared.parts.WriteRefusal.{WriteRefusal}
+use Rattle.form_writer.specs.declared.parts.WriteRefusal.TheVariants.{BadValue, NoRoom}
 use Rattle.form_writer.specs.Parts.{write_alone, write_value, words_octets}
 use Rattle.sample_writer.specs.CounterValues.{WordOrHyper}
 use Rattle.form_writer.proofs.WordRuns.{words_length, stored_nothing}
@@ -63,11 +64,10 @@ put_next d₀ at ws ns d i p k h =
       octets_are = rw (add-one, drop-cons ws i 0 h, drop-cons ns i 0 j);
     }
 
--- one number more
-pub put_step : (d₀ : List ℕ) (at : ℕ) (ws ns d : List ℕ) (i p : ℕ) (r : Written) (e : List ℕ) → Putting d₀ at ws ns d i p → i < length ws
+put_one : (d₀ : List ℕ) (at : ℕ) (ws ns d : List ℕ) (i p : ℕ) (r : Written) (e : List ℕ) → Putting d₀ at ws ns d i p → i < length ws
     → afterwards r e ≡ write_at d p (octets_of (get_or ws i 0) (get_or ns i 0))
     → Putting d₀ at ws ns e (i + 1) (p + get_or ws i 0)
-put_step d₀ at ws ns d i p r e k h f =
+put_one d₀ at ws ns d i p r e k h f =
     let n = put_next d₀ at ws ns d i p k h in
     let xs : List ℕ = octets_of (get_or ws i 0) (get_or ns i 0) in
     let ys : List ℕ = octets_of_each (drop (i + 1) ws) (drop (i + 1) ns) in
@@ -87,6 +87,12 @@ put_step d₀ at ws ns d i p r e k h f =
           rw (g.octets_are, stored_next d p (p + get_or ws i 0) xs ys (omega arith) (omega arith))
           (ap (stored d p) (sym n.octets_are) ∙ k.all_are);
     }
+
+-- one number more
+pub put_step : (d₀ : List ℕ) (at : ℕ) (ws ns d : List ℕ) (i p : ℕ) (r : Written) (e : List ℕ) → Putting d₀ at ws ns d i p → i < length ws
+    → (j w v : ℕ) → j ≡ i + 1 → w ≡ get_or ws i 0 → v ≡ get_or ns i 0
+    → afterwards r e ≡ write_at d p (octets_of w v) → Putting d₀ at ws ns e j (p + w)
+put_step d₀ at ws ns d i p r e k h j w v a b c f = rw (a, b) (put_one d₀ at ws ns d i p r e k h (rw (b, c) at f))
 
 -- all numbers
 pub put_end : (d₀ : List ℕ) (at : ℕ) (ws ns d : List ℕ) (i p : ℕ) → Putting d₀ at ws ns d i p → length ws ≤ i → d ≡ stored d₀ at (octets_of_each ws ns)
@@ -109,7 +115,7 @@ pub record Headed (d head e : List ℕ) : Type 0 where
   pub long : length e ≡ length d
 
 -- five words that fit are stored
-pub head_put : (d head : List ℕ) (r : WriteAnswer) (e : List ℕ) → length head ≡ 5 → 20 ≤ length d → afterwards r e ≡ write_alone (words_octets head) d
+pub head_put : (d head : List ℕ) (r : Result ℕ WriteRefusal) (e : List ℕ) → length head ≡ 5 → 20 ≤ length d → afterwards r e ≡ write_alone (words_octets head) d
     → Headed d head e
 head_put d head r e five room f =
     let l : length (words_octets head) ≡ 20 = five_length head five in
@@ -118,18 +124,18 @@ head_put d head r e five room f =
     record { octets_are = o; long = rw o (stored_length d 0 (words_octets head) (omega arith)) }
 
 -- numbers that do not fit their widths change nothing
-pub numbers_bad : (d xs ws ns : List ℕ) → each_fits ws ns ≡ false → afterwards BadValue d ≡ write_value (each_fits ws ns) xs d
+pub numbers_bad : (d xs ws ns : List ℕ) → each_fits ws ns ≡ false → afterwards (Err BadValue) d ≡ write_value (each_fits ws ns) xs d
 numbers_bad d xs ws ns e = rw e
 
 module _ (d head ws ns : List ℕ) (total : ℕ) (five : length head ≡ 5) (all : total ≡ 20 + total_width ws) where
   -- numbers without room change nothing
   pub numbers_full : each_fits ws ns ≡ true → length d < total
-      → afterwards NoRoom d ≡ write_value (each_fits ws ns) (words_octets head ++ octets_of_each ws ns) d
+      → afterwards (Err NoRoom) d ≡ write_value (each_fits ws ns) (words_octets head ++ octets_of_each ws ns) d
   numbers_full e h = rw e (alone_full (words_octets head ++ octets_of_each ws ns) d total (all ∙ all_length head ws ns five (fits_told ws ns e)) h)
 
   -- numbers behind the words are stored
   pub numbers_done : (d1 d2 : List ℕ) → each_fits ws ns ≡ true → total ≤ length d → Headed d head d1 → d2 ≡ stored d1 20 (octets_of_each ws ns)
-      → afterwards (Done total) d2 ≡ write_value (each_fits ws ns) (words_octets head ++ octets_of_each ws ns) d
+      → afterwards (Ok total) d2 ≡ write_value (each_fits ws ns) (words_octets head ++ octets_of_each ws ns) d
   numbers_done d1 d2 e room p q =
       let f : Fits ws ns = fits_told ws ns e in
       let l : length (words_octets head) ≡ 20 = five_length head five in

@@ -11,7 +11,7 @@ ghost use Rattle.form_writer.specs.Parts.{write_value, write_given, words_octets
 ghost use Rattle.sample_writer.specs.CounterValues.{WordOrHyper, counters_value};
 
 use form_writer::parts;
-use form_writer::parts::WriteAnswer;
+use form_writer::parts::WriteRefusal;
 use xdr::Written;
 
 // Whether a number fits a width, a word's or a hyper's.
@@ -19,10 +19,7 @@ fn fits_width(width: u8, v: u64) -> bool
     requires { WordOrHyper width }
     ensures { result ≡ ltb v (256 ^ width) }
 {
-    if width == 8 {
-        return true;
-    }
-    v < 4294967296
+    width == 8 || v < 4294967296
 }
 
 // Whether there are as many numbers as widths, and each fits its own.
@@ -33,11 +30,8 @@ fn each_fits(widths: &[u8], numbers: &[u64]) -> bool
     if numbers.len() != widths.len() {
         return false;
     }
-    let mut i = 0;
-    while i < widths.len() {
-        if fits_width(widths[i], numbers[i]) {
-            i += 1;
-        } else {
+    for (width, v) in widths.iter().zip(numbers) {
+        if !fits_width(*width, *v) {
             return false;
         }
     }
@@ -60,12 +54,10 @@ fn put_numbers(d: &mut [u8], at: usize, widths: &[u8], numbers: &[u64])
     requires { Each WordOrHyper widths.now × Fits widths.now numbers.now × (at + total_width widths.now ≤ length d.old) }
     ensures { d.new ≡ stored d.old at (octets_of_each widths.now numbers.now) }
 {
-    let mut i = 0;
     let mut p = at;
-    while i < widths.len() {
-        write_number(d, p, widths[i], numbers[i]);
-        p += widths[i] as usize;
-        i += 1;
+    for (width, v) in widths.iter().zip(numbers) {
+        write_number(d, p, *width, *v);
+        p += *width as usize;
     }
 }
 
@@ -76,20 +68,21 @@ fn write_numbers(
     total: usize,
     widths: &[u8],
     numbers: &[u64],
-) -> WriteAnswer
+) -> Result<usize, WriteRefusal>
     requires { T (words_and_hypers widths.now) × (length head.now ≡ 5) × (total ≡ 20 + total_width widths.now) }
     ensures { afterwards result d.new
         ≡ write_value (each_fits widths.now numbers.now) (words_octets head.now ++ octets_of_each widths.now numbers.now) d.old }
 {
-    if each_fits(widths, numbers) {
-        if d.len() < total {
-            return WriteAnswer::NoRoom;
-        }
-        parts::write_words(d, head);
-        put_numbers(d, 20, widths, numbers);
-        return WriteAnswer::Done(total);
+    if !each_fits(widths, numbers) {
+        return Err(WriteRefusal::BadValue);
     }
-    WriteAnswer::BadValue
+    if d.len() < total {
+        return Err(WriteRefusal::NoRoom);
+    }
+    // There is room.
+    let _ = parts::write_words(d, head);
+    put_numbers(d, 20, widths, numbers);
+    Ok(total)
 }
 
 // A counter sample, with its type word: the counters are numbers in the order of the version's fields.
@@ -100,7 +93,7 @@ pub fn write_counters(
     sampling_interval: u32,
     version: u32,
     numbers: &[u64],
-) -> WriteAnswer
+) -> Result<usize, WriteRefusal>
     ensures { afterwards result d.new
         ≡ write_given sample_type (some (counters_value sequence_number source_id sampling_interval version numbers.now)) d.old }
 {
@@ -111,6 +104,6 @@ pub fn write_counters(
         3 => write_numbers(d, &head, 180, &counter_data::TOKENRING_WIDTHS, numbers),
         5 => write_numbers(d, &head, 188, &counter_data::VG_WIDTHS, numbers),
         7 => write_numbers(d, &head, 48, &counter_data::VLAN_WIDTHS, numbers),
-        _ => WriteAnswer::BadValue,
+        _ => Err(WriteRefusal::BadValue),
     }
 }

@@ -1,18 +1,18 @@
 // Flow samples, with their type word, and samples given as octets.
-ghost use Rattle.std.specs.Prelude.{◌≡◌};
+ghost use Rattle.std.specs.Prelude.{◌≡◌, ◌++◌};
 ghost use Rattle.std.proofs.Math.Option.{some};
 ghost use Rattle.xdr.specs.Writes.{afterwards};
 ghost use Rattle.sflow.specs.Decode.{value_in, entries_in};
 ghost use Rattle.sflow.specs.Datagram.{packet_data_type, extended_data_type, sample_type};
-ghost use Rattle.form_writer.specs.Parts.{write_value, write_given, joined_octets};
+ghost use Rattle.form_writer.specs.Parts.{write_value, write_given, words_octets, part_octets};
 ghost use Rattle.form_writer.specs.Values.{header_value, ipv4_value, ipv6_value};
-ghost use Rattle.sample_writer.specs.FlowValues.{flow_given, is_given};
+ghost use Rattle.sample_writer.specs.FlowValues.{flow_given, flow_octets, is_given};
 
 use fields::runs::Passed;
-use form_writer::parts::WriteAnswer;
+use form_writer::parts::{Part, WriteRefusal};
+use form_writer::{packet, parts};
 use packet_data::{SampledIpv4, SampledIpv6};
 use reader::sample::FlowWords;
-use xdr::Written;
 
 // Whether octets are exactly so many extended entries.
 fn are_entries(count: u32, extended: &[u8]) -> bool
@@ -24,17 +24,44 @@ fn are_entries(count: u32, extended: &[u8]) -> bool
     last == extended.len()
 }
 
-// A flow sample by its parts: the words up to the packet data's string, that string, which is padded, and so many extended entries as octets that their
-// writers wrote.
-fn put_flow(d: &mut [u8], head: &[u32], string: &[u8], count: u32, extended: &[u8]) -> WriteAnswer
+// A flow sample by its parts: its words, those of its packet data and what stands behind these, and so many extended entries as octets that their writers
+// wrote.
+fn put_flow<'a>(
+    d: &mut [u8],
+    words: FlowWords,
+    packet: &'a [u32],
+    rest: Part<'a>,
+    count: u32,
+    extended: &'a [u8],
+) -> Result<usize, WriteRefusal>
     ensures { afterwards result d.new
         ≡ write_value (is_given (entries_in extended_data_type count extended.now))
-        (joined_octets head.now string.now count extended.now) d.old }
+        (flow_octets words (words_octets packet.now ++ part_octets rest.entry) count extended.now) d.old }
 {
-    if are_entries(count, extended) {
-        return form_writer::parts::write_joined(d, head, string, count, extended);
+    if !are_entries(count, extended) {
+        return Err(WriteRefusal::BadValue);
     }
-    WriteAnswer::BadValue
+    let w = words;
+    let head = [
+        1,
+        w.sequence_number,
+        w.source_id,
+        w.sampling_rate,
+        w.sample_pool,
+        w.drops,
+        w.input,
+        w.output,
+    ];
+    parts::write_parts(
+        d,
+        &[
+            Part::Words(&head),
+            Part::Words(packet),
+            rest,
+            Part::Words(&[count]),
+            Part::Octets(extended),
+        ],
+    )
 }
 
 // A flow sample with a sampled header: its words, the header's protocol, the frame's length and the header's octets, and so many extended entries as octets
@@ -47,35 +74,15 @@ pub fn write_header_flow(
     header: &[u8],
     count: u32,
     extended: &[u8],
-) -> WriteAnswer
+) -> Result<usize, WriteRefusal>
     ensures { afterwards result d.new
         ≡ write_given sample_type (flow_given words (some (header_value protocol frame_length header.now)) (entries_in extended_data_type count extended.now)) d.old }
 {
-    if protocol < 1 {
-        return WriteAnswer::BadValue;
+    if !(1..=13).contains(&protocol) || 256 < header.len() {
+        return Err(WriteRefusal::BadValue);
     }
-    if 13 < protocol {
-        return WriteAnswer::BadValue;
-    }
-    if 256 < header.len() {
-        return WriteAnswer::BadValue;
-    }
-    let w = words;
-    let head = [
-        1,
-        w.sequence_number,
-        w.source_id,
-        w.sampling_rate,
-        w.sample_pool,
-        w.drops,
-        w.input,
-        w.output,
-        1,
-        protocol,
-        frame_length,
-        header.len() as u32,
-    ];
-    put_flow(d, &head, header, count, extended)
+    let head = [1, protocol, frame_length, header.len() as u32];
+    put_flow(d, words, &head, Part::Padded(header), count, extended)
 }
 
 // A flow sample with IPv4 data, and so many extended entries as octets that their writers wrote.
@@ -85,32 +92,12 @@ pub fn write_ipv4_flow(
     packet: SampledIpv4,
     count: u32,
     extended: &[u8],
-) -> WriteAnswer
+) -> Result<usize, WriteRefusal>
     ensures { afterwards result d.new
         ≡ write_given sample_type (flow_given words (some (ipv4_value packet)) (entries_in extended_data_type count extended.now)) d.old }
 {
-    let w = words;
-    let x = packet;
-    let head = [
-        1,
-        w.sequence_number,
-        w.source_id,
-        w.sampling_rate,
-        w.sample_pool,
-        w.drops,
-        w.input,
-        w.output,
-        2,
-        x.length,
-        x.protocol,
-        x.src_ip,
-        x.dst_ip,
-        x.src_port,
-        x.dst_port,
-        x.tcp_flags,
-        x.tos,
-    ];
-    put_flow(d, &head, b"", count, extended)
+    let head = packet::ipv4_words(packet);
+    put_flow(d, words, &head, Part::Octets(b""), count, extended)
 }
 
 // A flow sample with IPv6 data, and so many extended entries as octets that their writers wrote.
@@ -120,40 +107,12 @@ pub fn write_ipv6_flow(
     packet: SampledIpv6,
     count: u32,
     extended: &[u8],
-) -> WriteAnswer
+) -> Result<usize, WriteRefusal>
     ensures { afterwards result d.new
         ≡ write_given sample_type (flow_given words (some (ipv6_value packet)) (entries_in extended_data_type count extended.now)) d.old }
 {
-    let w = words;
-    let x = packet;
-    let s = x.src_ip;
-    let t = x.dst_ip;
-    let head = [
-        1,
-        w.sequence_number,
-        w.source_id,
-        w.sampling_rate,
-        w.sample_pool,
-        w.drops,
-        w.input,
-        w.output,
-        3,
-        x.length,
-        x.protocol,
-        s.a,
-        s.b,
-        s.c,
-        s.d,
-        t.a,
-        t.b,
-        t.c,
-        t.d,
-        x.src_port,
-        x.dst_port,
-        x.tcp_flags,
-        x.priority,
-    ];
-    put_flow(d, &head, b"", count, extended)
+    let head = packet::ipv6_words(packet);
+    put_flow(d, words, &head, Part::Octets(b""), count, extended)
 }
 
 // A flow sample whose packet data are given as octets that their writer wrote, and so many extended entries as octets that theirs wrote.
@@ -163,42 +122,28 @@ pub fn write_flow(
     packet: &[u8],
     count: u32,
     extended: &[u8],
-) -> WriteAnswer
+) -> Result<usize, WriteRefusal>
     ensures { afterwards result d.new
         ≡ write_given sample_type (flow_given words (value_in packet_data_type packet.now) (entries_in extended_data_type count extended.now)) d.old }
 {
     let Passed::Next(end) = packet_data::pass_packet(packet, 0) else {
-        return WriteAnswer::BadValue;
+        return Err(WriteRefusal::BadValue);
     };
     if end != packet.len() {
-        return WriteAnswer::BadValue;
+        return Err(WriteRefusal::BadValue);
     }
-    let w = words;
-    let head = [
-        1,
-        w.sequence_number,
-        w.source_id,
-        w.sampling_rate,
-        w.sample_pool,
-        w.drops,
-        w.input,
-        w.output,
-    ];
-    put_flow(d, &head, packet, count, extended)
+    put_flow(d, words, &[], Part::Octets(packet), count, extended)
 }
 
 // A sample given as octets.
-pub fn write_sample(d: &mut [u8], sample: &[u8]) -> WriteAnswer
+pub fn write_sample(d: &mut [u8], sample: &[u8]) -> Result<usize, WriteRefusal>
     ensures { afterwards result d.new ≡ write_given sample_type (value_in sample_type sample.now) d.old }
 {
     let Passed::Next(end) = reader::sample::pass_sample(sample, 0) else {
-        return WriteAnswer::BadValue;
+        return Err(WriteRefusal::BadValue);
     };
     if end != sample.len() {
-        return WriteAnswer::BadValue;
+        return Err(WriteRefusal::BadValue);
     }
-    match xdr_write::write_octets(d, 0, sample) {
-        Written::WrittenTo(n) => WriteAnswer::Done(n),
-        Written::Full => WriteAnswer::NoRoom,
-    }
+    parts::write_parts(d, &[Part::Octets(sample)])
 }

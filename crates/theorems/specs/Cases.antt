@@ -1,15 +1,14 @@
 -- Document 01's starred cases: one table of the definitions under one statement. Each case is evaluated by the definition that the public function's
 -- contract cites.
-use Rattle.std.specs.Prelude.{ℕ, zero, suc, ◌≡◌, List, [], ◌∷◌, ◌++◌, take, get_or, replicate, Ok, Err}
+use Rattle.std.specs.Prelude.{ℕ, zero, suc, ◌≡◌, List, [], ◌∷◌, ◌++◌, take, get_or, replicate, Result, Ok, Err}
 use Rattle.std.proofs.Math.Option.{some}
-use Rattle.form_writer.specs.declared.parts.WriteAnswer.{WriteAnswer}
+use Rattle.form_writer.specs.declared.parts.WriteRefusal.{WriteRefusal}
 use Rattle.xdr.specs.Writes.{Afterwards, afterwards}
 use Rattle.sflow.specs.Refusals.{refusal_number}
 use Rattle.reader.specs.declared.datagram.Head.{Head}
 use Rattle.reader.specs.declared.datagram.HeadRead.{HeadRead}
 use Rattle.reader.specs.declared.datagram.HeadRead.TheVariants.{Found, Refused}
 use Rattle.reader.specs.Datagrams.{datagram_read}
-use Rattle.form_writer.specs.declared.parts.WriteAnswer.TheVariants.{Done, BadLimit, BadDatagram, BadValue, NoRoom}
 use Rattle.form_writer.specs.Parts.{write_number}
 use Rattle.sample_writer.specs.CounterValues.{counters_value}
 use Rattle.writer.specs.Datagrams.{started, appended}
@@ -59,12 +58,9 @@ pub record Appended : Type 0 where
   pub buffer : List ℕ
 
 -- behind an answer: the new length, or the refusal with what was there
-abbrev behind : ℕ → Afterwards WriteAnswer → Appended
-behind size (afterwards (Done n) d) = record { number = 0; size = n; buffer = d }
-behind size (afterwards BadLimit d) = record { number = write_number BadLimit; size = size; buffer = d }
-behind size (afterwards BadDatagram d) = record { number = write_number BadDatagram; size = size; buffer = d }
-behind size (afterwards BadValue d) = record { number = write_number BadValue; size = size; buffer = d }
-behind size (afterwards NoRoom d) = record { number = write_number NoRoom; size = size; buffer = d }
+abbrev behind : ℕ → Afterwards (Result ℕ WriteRefusal) → Appended
+behind size (afterwards (Ok n) d) = record { number = 0; size = n; buffer = d }
+behind size (afterwards (Err why) d) = record { number = write_number (Err why); size = size; buffer = d }
 
 -- a datagram of an IPv4 agent with so many Ethernet counter samples appended, in a buffer of 1,400 octets
 abbrev after_appends : ℕ → Appended

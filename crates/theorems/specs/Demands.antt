@@ -10,7 +10,6 @@ use Rattle.sflow.specs.Datagram.{address, sample_type, sample_datagram, agent_ad
 use Rattle.sflow.specs.Reading.{longest, read_datagram}
 use Rattle.reader.specs.Datagrams.{datagram_of, walk, samples_from}
 use Rattle.reader.specs.declared.sample.FlowSample.{FlowSample}
-use Rattle.form_writer.specs.declared.parts.WriteAnswer.TheVariants.{Done}
 use Rattle.fields.specs.declared.address.Address.{Address}
 use Rattle.writer.specs.Datagrams.{limit_allowed, started, appended, StartAccepted, AppendAccepted}
 use Rattle.rewriting.specs.Rewriting.{rewritten, Stopped}
@@ -127,20 +126,20 @@ pub record Demand2 : Type 0 where
       → (entries_in g n xs ≡ some vs) ↔ ((length vs ≡ n) × Each (Valid g) vs × (xs ≡ flat_map (encode g) vs))
   -- whatever start or an append leaves with a length is accepted: without samples, or with those that were there and the new one last
   pub start_accepted : (limit : ℕ) (agent : Address) (sequence uptime : ℕ) (d : List ℕ) (n : ℕ) (e : List ℕ)
-      → started limit agent sequence uptime d ≡ afterwards (Done n) e → StartAccepted agent sequence uptime d n e
+      → started limit agent sequence uptime d ≡ afterwards (Ok n) e → StartAccepted agent sequence uptime d n e
   pub append_accepted : (x : Option (Value sample_type)) (limit size : ℕ) (d : List ℕ) → Octets d → (n : ℕ) (e : List ℕ)
-      → appended x limit size d ≡ afterwards (Done n) e → AppendAccepted x size d n e
+      → appended x limit size d ≡ afterwards (Ok n) e → AppendAccepted x size d n e
   -- written again from what the reader gives of it: its octets, where they fit, and the rest of the buffer as it was
   pub same_octets : (s : List ℕ) → Octets s → (v : Value sample_datagram) → read_datagram s ≡ found v (length s)
       → (limit : ℕ) (d : List ℕ) → limit_allowed limit (length d) ≡ true
-      → length s ≤ limit → rewritten s (datagram_of v) limit d ≡ afterwards (Done (length s)) (stored d 0 s)
+      → length s ≤ limit → rewritten s (datagram_of v) limit d ≡ afterwards (Ok (length s)) (stored d 0 s)
   -- and otherwise no more than the samples that fit
   pub never_more : (s : List ℕ) → Octets s → (v : Value sample_datagram) → read_datagram s ≡ found v (length s)
       → (limit : ℕ) (d : List ℕ) → limit_allowed limit (length d) ≡ true → limit < length s → Stopped v limit d (rewritten s (datagram_of v) limit d)
   -- both of what C and Rust can call: the numbers that the reading calls tell, given to the writing calls
   pub same_octets_by_calls : (s : List ℕ) → Octets s → (v : Value sample_datagram) → read_datagram s ≡ found v (length s)
       → (limit : ℕ) (d : List ℕ) → limit_allowed limit (length d) ≡ true
-      → length s ≤ limit → rewritten_by_calls s limit d ≡ some (afterwards (Done (length s)) (stored d 0 s))
+      → length s ≤ limit → rewritten_by_calls s limit d ≡ some (afterwards (Ok (length s)) (stored d 0 s))
   pub never_more_by_calls : (s : List ℕ) → Octets s → (v : Value sample_datagram) → read_datagram s ≡ found v (length s)
       → (limit : ℕ) (d : List ℕ) → limit_allowed limit (length d) ≡ true → limit < length s → StoppedByCalls s v limit d
   -- a free row opens with the sample's numbers and totals of 0

@@ -1,6 +1,6 @@
 -- Demand 1 in numbers: whatever an entry of a program in Rattle answers by its contract, its number, place, rule and values are document 01's, and so are the
 -- lent buffers, rows and tables where it refuses.
-use Rattle.std.specs.Prelude.{ℕ, ◌≤◌, ◌≡◌, ◌↔◌, Bool, List, [], ◌∷◌, length, drop}
+use Rattle.std.specs.Prelude.{ℕ, ◌≤◌, ◌≡◌, ◌↔◌, Bool, List, [], ◌∷◌, length, drop, Result}
 use Rattle.std.proofs.Math.Option.{Option}
 use Rattle.xdr.specs.Writes.{afterwards}
 use Rattle.xdr.specs.declared.Written.{Written}
@@ -20,7 +20,7 @@ use Rattle.reader.specs.declared.datagram.Cursor.{Cursor}
 use Rattle.reader.specs.declared.datagram.Step.{Step}
 use Rattle.reader.specs.Samples.{sample_of, as_sample}
 use Rattle.reader.specs.Datagrams.{datagram_of, as_head, datagram_read, head_at, step_at}
-use Rattle.form_writer.specs.declared.parts.WriteAnswer.{WriteAnswer}
+use Rattle.form_writer.specs.declared.parts.WriteRefusal.{WriteRefusal}
 use Rattle.form_writer.specs.Parts.{write_given}
 use Rattle.writer.specs.Datagrams.{started, appended}
 use Rattle.ledger.specs.declared.FlowEntry.{FlowEntry}
@@ -61,10 +61,10 @@ pub record InNumbers : Type 1 where
   pub segment : (s : List ℕ) (at : ℕ) (r : SegmentRead) → r ≡ as_segment (mapped (segment_of at) (decode as_path_type s at))
       → segment_report r ≡ decoded_report segment_numbers (mapped (segment_of at) (decode as_path_type s at))
   -- ---- the writer: a value alone 22, 20; start 21, 22; every append 21, 23, 22, 20, in these orders; a refusal leaves the buffer
-  pub form : (g : Form) (x : Option (Value g)) (d e : List ℕ) (r : WriteAnswer) → afterwards r e ≡ write_given g x d → WriteTold r d e (form_report g x (length d))
-  pub start : (limit : ℕ) (agent : Address) (sequence uptime : ℕ) (d e : List ℕ) (r : WriteAnswer) → afterwards r e ≡ started limit agent sequence uptime d
+  pub form : (g : Form) (x : Option (Value g)) (d e : List ℕ) (r : Result ℕ WriteRefusal) → afterwards r e ≡ write_given g x d → WriteTold r d e (form_report g x (length d))
+  pub start : (limit : ℕ) (agent : Address) (sequence uptime : ℕ) (d e : List ℕ) (r : Result ℕ WriteRefusal) → afterwards r e ≡ started limit agent sequence uptime d
       → WriteTold r d e (start_report limit agent sequence uptime (length d))
-  pub append : (x : Option (Value sample_type)) (limit size : ℕ) (d e : List ℕ) (r : WriteAnswer) → afterwards r e ≡ appended x limit size d
+  pub append : (x : Option (Value sample_type)) (limit size : ℕ) (d e : List ℕ) (r : Result ℕ WriteRefusal) → afterwards r e ≡ appended x limit size d
       → WriteTold r d e (append_report x limit size d)
   -- ---- the ledger: 40, 41, 42 of a table, 43, 41, 42 of a lent row, each exactly where document 01 gives it; a refusal changes no row
   pub table : (rows : List Row) (x : FlowEntry) (r : TableEntered) → r ≡ entered rows x → EntryTold rows x (entry_number r.answer) r.rows

@@ -1,12 +1,12 @@
 -- What the writers answer, by document 01's numbers and in the order of its tests ("Writer").
-use Rattle.std.specs.Prelude.{ℕ, ◌+◌, ◌≡◌, ◌≢◌, Bool, true, false, cond, ◌&&◌, List, [], ◌∷◌, length, take, leb}
+use Rattle.std.specs.Prelude.{ℕ, ◌+◌, ◌≡◌, ◌≢◌, Bool, true, false, cond, ◌&&◌, List, [], ◌∷◌, length, take, leb, Result}
 use Rattle.std.proofs.Math.Option.{Option}
 use Rattle.sflow.specs.Grammar.{Form, Value, encode, allows, allows_given, encode_given}
 use Rattle.sflow.specs.Decode.{Decoded, found, refused}
 use Rattle.sflow.specs.Datagram.{sample_type, sample_datagram}
 use Rattle.sflow.specs.Reading.{read_datagram}
 use Rattle.fields.specs.declared.address.Address.{Address}
-use Rattle.form_writer.specs.declared.parts.WriteAnswer.{WriteAnswer}
+use Rattle.form_writer.specs.declared.parts.WriteRefusal.{WriteRefusal}
 use Rattle.form_writer.specs.Parts.{write_number}
 use Rattle.writer.specs.Datagrams.{limit_allowed, start_value}
 use Rattle.numbers.specs.Reports.{Report, report}
@@ -44,6 +44,6 @@ append_report x limit size d =
     (report 0 ((size + length (encode_given sample_type x)) ∷ [])))))
 
 -- an answer is told so, and a refusal leaves the buffer as it was
-pub record WriteTold (answer : WriteAnswer) (d e : List ℕ) (told : Report) : Type 0 where
+pub record WriteTold (answer : Result ℕ WriteRefusal) (d e : List ℕ) (told : Report) : Type 0 where
   pub tells : write_report answer ≡ told
   pub stays : write_number answer ≢ 0 → e ≡ d

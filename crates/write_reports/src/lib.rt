@@ -6,16 +6,18 @@ ghost use Rattle.xdr.specs.Writes.{afterwards};
 ghost use Rattle.numbers.specs.Reports.{tell};
 ghost use Rattle.write_reports.specs.WriteReports.{write_report};
 
-use form_writer::parts::{WriteAnswer, answer_number};
+use form_writer::parts::WriteRefusal;
 use numbers::fill;
 
 // A writer's answer as a number, and the length written into the array.
-pub fn report(answer: WriteAnswer, out: &mut [u64]) -> u32
+pub fn report(answer: Result<usize, WriteRefusal>, out: &mut [u64]) -> u32
     ensures { afterwards result out.new ≡ tell (write_report answer) out.old }
 {
-    let WriteAnswer::Done(n) = answer else {
-        return answer_number(answer);
-    };
-    fill(out, &[n as u64]);
-    0
+    match answer {
+        Ok(n) => {
+            fill(out, &[n as u64]);
+            0
+        }
+        Err(why) => u32::from(why),
+    }
 }

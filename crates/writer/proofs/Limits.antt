@@ -1,21 +1,12 @@
 -- Limits of a datagram. Assumes nothing.
-use Prim.Native.Nat.{ℕ, ◌≤◌, ◌<◌}
+use Prim.Native.Nat.{ℕ, ◌≤◌}
 use native.Mathlib.Omega.{arith}
 use mathlib.Core.Path.{◌≡◌, refl}
 use mathlib.Core.Bool.{Bool, true, false, cond}
 use lib.Dec.{leb}
-use borrow.Author.Tests.{le-leb, lt-leb, leb-true}
+use borrow.Author.Tests.{leb-true}
 use Rattle.sflow.specs.Reading.{longest}
 use Rattle.writer.specs.Datagrams.{limit_allowed}
-
-pub limit_small : (limit room : ℕ) → limit < 36 → false ≡ limit_allowed limit room
-limit_small limit room h = rw (lt-leb 36 limit h)
-
-pub limit_large : (limit room : ℕ) → 36 ≤ limit → longest < limit → false ≡ limit_allowed limit room
-limit_large limit room h l = rw (le-leb 36 limit h, lt-leb limit longest l)
-
-pub limit_room : (limit room : ℕ) → 36 ≤ limit → limit ≤ longest → leb limit room ≡ limit_allowed limit room
-limit_room limit room h l = rw (le-leb 36 limit h, le-leb limit longest l)
 
 -- what an allowed limit says
 pub record Allowed (limit room : ℕ) : Type 0 where

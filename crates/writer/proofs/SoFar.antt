@@ -6,6 +6,7 @@ use mathlib.Core.Bool.{true, false}
 use mathlib.Core.List.{List, [], ◌∷◌, ◌++◌, flat_map}
 use lib.ListN.{length, take, length-append}
 use borrow.Author.Tests.{le-leb, lt-leb}
+use Rattle.std.specs.Prelude.{Ok, Err}
 use Rattle.xdr.specs.Numbers.{Octets, octets_of}
 use Rattle.xdr.proofs.Octets.{octets_length}
 use Rattle.sflow.specs.declared.Refusal.{Refusal}
@@ -17,8 +18,7 @@ use Rattle.sflow.proofs.Theorems.{accepted_to_end, accepted_exactly}
 use Rattle.reader.specs.declared.datagram.Head.{Head}
 use Rattle.reader.specs.declared.datagram.HeadRead.TheVariants.{Found as FoundHead, Refused as RefusedHead}
 use Rattle.reader.specs.Datagrams.{datagram_of, as_head}
-use Rattle.form_writer.specs.declared.parts.WriteAnswer.TheVariants.{BadLimit, BadDatagram}
-use Rattle.writer.specs.declared.Checked.TheVariants.{Ready, NotReady}
+use Rattle.form_writer.specs.declared.parts.WriteRefusal.TheVariants.{BadLimit, BadDatagram}
 use Rattle.writer.specs.Datagrams.{limit_allowed, count_at, ready_so_far, checked_at}
 
 -- ---- the samples of an accepted datagram are few
@@ -83,27 +83,27 @@ head_few s o h e =
 -- ---- the answers
 
 module _ (limit size : ℕ) (d : List ℕ) where
-  pub so_far_limit : limit_allowed limit (length d) ≡ false → NotReady BadLimit ≡ checked_at limit size d
+  pub so_far_limit : limit_allowed limit (length d) ≡ false → Err BadLimit ≡ checked_at limit size d
   unfolding checked_at
   so_far_limit e = rw e
 
   module _ (e : limit_allowed limit (length d) ≡ true) where
-    pub so_far_long : limit < size → NotReady BadDatagram ≡ checked_at limit size d
+    pub so_far_long : limit < size → Err BadDatagram ≡ checked_at limit size d
     unfolding checked_at
     so_far_long h = rw (e, lt-leb size limit h)
 
     module _ (h : size ≤ limit) where
       pub so_far_refused : (why : Refusal) (p : ℕ) → as_head (mapped datagram_of (read_datagram (take size d))) ≡ RefusedHead why p
-          → NotReady BadDatagram ≡ checked_at limit size d
+          → Err BadDatagram ≡ checked_at limit size d
       unfolding checked_at
       so_far_refused why p f = rw (e, le-leb size limit h) (go (read_datagram (take size d)) f)
         where
-          go : (r : Decoded (Value sample_datagram)) → as_head (mapped datagram_of r) ≡ RefusedHead why p → NotReady BadDatagram ≡ ready_so_far r
+          go : (r : Decoded (Value sample_datagram)) → as_head (mapped datagram_of r) ≡ RefusedHead why p → Err BadDatagram ≡ ready_so_far r
           go (found v end) g = let z : ◌≡◌ {A = ℕ} 0 1 = cc in absurd (omega arith)
           go (refused w q) g = refl
 
       pub so_far_found : (x : Head) → as_head (mapped datagram_of (read_datagram (take size d))) ≡ FoundHead x
-          → Ready (x.samples.at - 4) (x.samples.count + 1) ≡ checked_at limit size d
+          → Ok (x.samples.at - 4, x.samples.count + 1) ≡ checked_at limit size d
       unfolding checked_at
       so_far_found x f =
           let r = head_of (take size d) x f in

@@ -7,6 +7,7 @@ use mathlib.Core.Bool.{true, false, cond}
 use mathlib.Core.List.{List, [], ◌∷◌, flat_map, append_assoc, append-nil}
 use lib.ListN.{length}
 use lib.Dec.{T, eqb}
+use Rattle.std.specs.Prelude.{Err}
 use Rattle.xdr.specs.Writes.{afterwards}
 use Rattle.xdr.specs.Numbers.{quad_number}
 use Rattle.xdr.proofs.Octets.{quad_octets}
@@ -14,7 +15,7 @@ use Rattle.sflow.specs.Grammar.{Valid, listed, octets_of_each, encode}
 use Rattle.sflow.specs.Datagram.{address_types, sample_datagram}
 use Rattle.sflow.proofs.Allows.{valid_allowed, invalid_refused}
 use Rattle.fields.specs.declared.address.Address.{Address}
-use Rattle.form_writer.specs.declared.parts.WriteAnswer.TheVariants.{BadLimit, BadValue}
+use Rattle.form_writer.specs.declared.parts.WriteRefusal.TheVariants.{BadLimit, BadValue}
 use Rattle.form_writer.specs.Parts.{write_alone, words_octets}
 use Rattle.form_writer.specs.Values.{quad_value}
 use Rattle.form_writer.proofs.FormValues.{QuadWords, address_valid, one_listed, two_listed, other_listed}
@@ -31,7 +32,7 @@ unfolding words_octets flat_map encode octets_of_each
 start_v6 a b c d s u k e hb hc hd = rw (e, quad_octets a b c d hb hc hd) (simp (append_assoc, append-nil))
 
 module _ (limit : ℕ) (agent : Address) (s u : ℕ) (d : List ℕ) where
-  pub start_limit : limit_allowed limit (length d) ≡ false → afterwards BadLimit d ≡ started limit agent s u d
+  pub start_limit : limit_allowed limit (length d) ≡ false → afterwards (Err BadLimit) d ≡ started limit agent s u d
   unfolding started
   start_limit e = rw e
 
@@ -60,6 +61,6 @@ module _ (limit : ℕ) (agent : Address) (s u : ℕ) (d : List ℕ) where
         start_written _ (start_valid k q (two_listed agent.kind f) i j)
         (start_v6 o.a o.b o.c o.d s u agent.kind f q.b q.c q.d)
 
-    pub start_other : (agent.kind ≡ 1 → ⊥) → (agent.kind ≡ 2 → ⊥) → afterwards BadValue d ≡ started limit agent s u d
+    pub start_other : (agent.kind ≡ 1 → ⊥) → (agent.kind ≡ 2 → ⊥) → afterwards (Err BadValue) d ≡ started limit agent s u d
     unfolding started
     start_other f g = rw (e, invalid_refused sample_datagram (start_value agent s u) (λ h. other_listed agent.kind f g h.2.0.1))

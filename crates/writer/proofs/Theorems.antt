@@ -10,7 +10,8 @@ use lib.ListN.{length, take, drop, length-append, length-take, take-append-drop}
 use lib.Seq.{take_at, drop-append-add, drop-append_seam}
 use lib.Dec.{leb, eqb}
 use borrow.Author.Tests.{le-leb, lt-leb, le-ltb, leb-true}
-use Rattle.form_writer.specs.declared.parts.WriteAnswer.{WriteAnswer}
+use Rattle.std.specs.Prelude.{Result, Ok, Err}
+use Rattle.form_writer.specs.declared.parts.WriteRefusal.{WriteRefusal}
 use Rattle.xdr.specs.Numbers.{Octets, octets_of}
 use Rattle.xdr.specs.Items.{total_width}
 use Rattle.xdr.specs.Writes.{stored, Afterwards, afterwards}
@@ -27,10 +28,8 @@ use Rattle.sflow.proofs.Theorems.{accepted_to_end, accepted_exactly}
 use Rattle.sflow.proofs.Allows.{allows_exactly, valid_allowed}
 use Rattle.sflow.proofs.Exact.{whole_slice, given_exactly}
 use Rattle.fields.specs.declared.address.Address.{Address}
-use Rattle.form_writer.specs.declared.parts.WriteAnswer.TheVariants.{Done, BadLimit, BadDatagram, BadValue, NoRoom}
+use Rattle.form_writer.specs.declared.parts.WriteRefusal.TheVariants.{BadLimit, BadDatagram, BadValue, NoRoom}
 use Rattle.form_writer.specs.Parts.{write_alone}
-use Rattle.writer.specs.declared.Checked.{Checked}
-use Rattle.writer.specs.declared.Checked.TheVariants.{Ready, NotReady}
 use Rattle.writer.specs.Datagrams.{limit_allowed, start_value, started, StartAccepted, count_at, ready_so_far, checked_at, raised, appended_when, appended_octets, appended, AppendAccepted, with_samples}
 use Rattle.writer.proofs.Limits.{limit_allowed_is}
 use Rattle.writer.proofs.SoFar.{few_samples}
@@ -109,7 +108,7 @@ module _ (limit : ℕ) (d : List ℕ) (allowed : limit_allowed limit (length d) 
   inside : length (encode sample_datagram v) ≤ length d
   inside = let a = limit_allowed_is limit (length d) allowed in let i = a.inside in omega arith
 
-  so_far_ready : checked_at limit (length (encode sample_datagram v)) (stored d 0 (encode sample_datagram v)) ≡ Ready (count_at v) (length (samples v) + 1)
+  so_far_ready : checked_at limit (length (encode sample_datagram v)) (stored d 0 (encode sample_datagram v)) ≡ Ok (count_at v, length (samples v) + 1)
   unfolding checked_at
   so_far_ready =
       let xs : List ℕ = encode sample_datagram v in
@@ -124,7 +123,7 @@ module _ (limit : ℕ) (d : List ℕ) (allowed : limit_allowed limit (length d) 
   -- one that fits stands behind the others, and the rest of the buffer is as it was
   pub append_fits : (w : Value sample_type) → Valid sample_type w → length (encode sample_datagram v) + length (encode sample_type w) ≤ limit
       → appended (some w) limit (length (encode sample_datagram v)) (stored d 0 (encode sample_datagram v))
-      ≡ afterwards (Done (length (encode sample_datagram (with_samples v (samples v ++ (w ∷ [])))))) (stored d 0 (encode sample_datagram (with_samples v (samples v ++ (w ∷ [])))))
+      ≡ afterwards (Ok (length (encode sample_datagram (with_samples v (samples v ++ (w ∷ [])))))) (stored d 0 (encode sample_datagram (with_samples v (samples v ++ (w ∷ [])))))
   unfolding appended_octets
   append_fits w h fits =
       let xs : List ℕ = encode sample_datagram v in
@@ -147,7 +146,7 @@ module _ (limit : ℕ) (d : List ℕ) (allowed : limit_allowed limit (length d) 
   -- one that does not fit changes nothing
   pub append_full : (w : Value sample_type) → Valid sample_type w → limit < length (encode sample_datagram v) + length (encode sample_type w)
       → appended (some w) limit (length (encode sample_datagram v)) (stored d 0 (encode sample_datagram v))
-      ≡ afterwards NoRoom (stored d 0 (encode sample_datagram v))
+      ≡ afterwards (Err NoRoom) (stored d 0 (encode sample_datagram v))
   unfolding appended_octets
   append_full w h full = rw (so_far_ready, valid_allowed sample_type w h, lt-leb (length (encode sample_datagram v) + length (encode sample_type w)) limit full)
 
@@ -171,8 +170,8 @@ encoded_total v ws h =
     omega arith
 
 -- a buffer that holds a datagram at its beginning, and its length
-abbrev pub holds : List ℕ → Value sample_datagram → Afterwards WriteAnswer
-holds d v = afterwards (Done (length (encode sample_datagram v))) (stored d 0 (encode sample_datagram v))
+abbrev pub holds : List ℕ → Value sample_datagram → Afterwards (Result ℕ WriteRefusal)
+holds d v = afterwards (Ok (length (encode sample_datagram v))) (stored d 0 (encode sample_datagram v))
 
 -- ---- a datagram without samples
 
@@ -256,7 +255,7 @@ held_behind d xs =
 
 -- whatever start writes is accepted, without samples
 pub start_accepted : (limit : ℕ) (agent : Address) (sequence uptime : ℕ) (d : List ℕ) (n : ℕ) (e : List ℕ)
-    → started limit agent sequence uptime d ≡ afterwards (Done n) e → StartAccepted agent sequence uptime d n e
+    → started limit agent sequence uptime d ≡ afterwards (Ok n) e → StartAccepted agent sequence uptime d n e
 unfolding started
 start_accepted limit agent sequence uptime d n e f = go (limit_allowed limit (length d)) refl (allows sample_datagram (start_value agent sequence uptime)) refl
   where
@@ -265,7 +264,7 @@ start_accepted limit agent sequence uptime d n e f = go (limit_allowed limit (le
 
     good : limit_allowed limit (length d) ≡ true → Valid sample_datagram v → StartAccepted agent sequence uptime d n e
     good allowed valid =
-        let same : holds d v ≡ afterwards (Done n) e = sym (start_holds limit d allowed agent sequence uptime valid) ∙ f in
+        let same : holds d v ≡ afterwards (Ok n) e = sym (start_holds limit d allowed agent sequence uptime valid) ∙ f in
         let size : length (encode sample_datagram v) ≡ n = cc in
         let left : stored d 0 (encode sample_datagram v) ≡ e = cc in
         let h = start_short limit d allowed agent sequence uptime valid in
@@ -280,10 +279,10 @@ start_accepted limit agent sequence uptime d n e f = go (limit_allowed limit (le
     go : (a : Bool) → limit_allowed limit (length d) ≡ a → (b : Bool) → allows sample_datagram v ≡ b → StartAccepted agent sequence uptime d n e
     go true a true b = good a ((allows_exactly sample_datagram v).0 b)
     go true a false b =
-        let g : afterwards BadValue d ≡ afterwards (Done n) e = rw (a, b) at f in
+        let g : afterwards (Err BadValue) d ≡ afterwards (Ok n) e = rw (a, b) at f in
         let z : ◌≡◌ {A = ℕ} 0 1 = cc in absurd (omega arith)
     go false a b c =
-        let g : afterwards BadLimit d ≡ afterwards (Done n) e = rw a at f in
+        let g : afterwards (Err BadLimit) d ≡ afterwards (Ok n) e = rw a at f in
         let z : ◌≡◌ {A = ℕ} 0 1 = cc in absurd (omega arith)
 
 -- a datagram so far to which a sample can be appended
@@ -293,11 +292,11 @@ record Readied (limit size : ℕ) (d : List ℕ) : Type 0 where
   so_far : Value sample_datagram
   was_accepted : read_datagram (take size d) ≡ found so_far size
 
-readied : (limit size : ℕ) (d : List ℕ) → Octets d → (at count : ℕ) → checked_at limit size d ≡ Ready at count → Readied limit size d
+readied : (limit size : ℕ) (d : List ℕ) → Octets d → (at count : ℕ) → checked_at limit size d ≡ Ok (at, count) → Readied limit size d
 unfolding checked_at
 readied limit size d o at count f = go (limit_allowed limit (length d)) refl f
   where
-    last : limit_allowed limit (length d) ≡ true → size ≤ limit → (r : Decoded (Value sample_datagram)) → read_datagram (take size d) ≡ r → ready_so_far r ≡ Ready at count
+    last : limit_allowed limit (length d) ≡ true → size ≤ limit → (r : Decoded (Value sample_datagram)) → read_datagram (take size d) ≡ r → ready_so_far r ≡ Ok (at, count)
         → Readied limit size d
     last a s (found v end) e g =
         let i : limit ≤ length d = (limit_allowed_is limit (length d) a).inside in
@@ -307,25 +306,14 @@ readied limit size d o at count f = go (limit_allowed limit (length d)) refl f
     last a s (refused why p) e g = let z : ◌≡◌ {A = ℕ} 0 1 = cc in absurd (omega arith)
 
     next : limit_allowed limit (length d) ≡ true → (b : Bool) → leb size limit ≡ b
-        → cond b (ready_so_far (read_datagram (take size d))) (NotReady BadDatagram) ≡ Ready at count → Readied limit size d
+        → cond b (ready_so_far (read_datagram (take size d))) (Err BadDatagram) ≡ Ok (at, count) → Readied limit size d
     next a true e g = last a (leb-true size limit e) (read_datagram (take size d)) refl g
     next a false e g = let z : ◌≡◌ {A = ℕ} 0 1 = cc in absurd (omega arith)
 
     go : (b : Bool) → limit_allowed limit (length d) ≡ b
-        → cond b (cond (leb size limit) (ready_so_far (read_datagram (take size d))) (NotReady BadDatagram)) (NotReady BadLimit) ≡ Ready at count → Readied limit size d
+        → cond b (cond (leb size limit) (ready_so_far (read_datagram (take size d))) (Err BadDatagram)) (Err BadLimit) ≡ Ok (at, count) → Readied limit size d
     go true e g = next e (leb size limit) refl g
     go false e g = let z : ◌≡◌ {A = ℕ} 0 1 = cc in absurd (omega arith)
-
--- why nothing can be appended is no length
-never_done : (limit size : ℕ) (d : List ℕ) (why : WriteAnswer) (n : ℕ) → checked_at limit size d ≡ NotReady why → why ≡ Done n → ⊥
-unfolding checked_at
-never_done limit size d why n c s = go (limit_allowed limit (length d)) (leb size limit) (read_datagram (take size d)) c
-  where
-    go : (a b : Bool) (r : Decoded (Value sample_datagram)) → cond a (cond b (ready_so_far r) (NotReady BadDatagram)) (NotReady BadLimit) ≡ NotReady why → ⊥
-    go true true (found v end) f = let z : ◌≡◌ {A = ℕ} 0 1 = cc in omega arith
-    go true true (refused y p) f = let z : ◌≡◌ {A = ℕ} 0 1 = cc in omega arith
-    go true false r f = let z : ◌≡◌ {A = ℕ} 0 1 = cc in omega arith
-    go false b r f = let z : ◌≡◌ {A = ℕ} 0 1 = cc in omega arith
 
 -- a datagram with a sample more: it is longer by the sample's octets, and a value of the grammar
 longer : (v : Value sample_datagram) (w : Value sample_type) → Valid sample_datagram v
@@ -348,7 +336,7 @@ with_more v w h k few = (h.0, h.1, (h.2.0, (h.2.1.0, (few, each_more (Valid samp
 
 -- whatever an append writes is accepted, with the samples that were there and the new one last
 pub append_accepted : (x : Option (Value sample_type)) (limit size : ℕ) (d : List ℕ) → Octets d → (n : ℕ) (e : List ℕ)
-    → appended x limit size d ≡ afterwards (Done n) e → AppendAccepted x size d n e
+    → appended x limit size d ≡ afterwards (Ok n) e → AppendAccepted x size d n e
 unfolding appended_octets
 append_accepted x limit size d o n e f = go (checked_at limit size d) refl f
   where
@@ -363,7 +351,7 @@ append_accepted x limit size d o n e f = go (checked_at limit size d) refl f
         let l : size ≡ length (take size d) = rw length-take (omega arith) in
         let was : read_datagram (take size d) ≡ found v (length (take size d)) = k.was_accepted ∙ ap (found v) l in
         let r = (accepted_exactly (take size d) (octets_take size d o) v).0 was in
-        let same : holds d u ≡ afterwards (Done n) e =
+        let same : holds d u ≡ afterwards (Ok n) e =
         sym (append_more d o size v was limit k.allowed small w h fits) ∙ ap (λ (y : Option (Value sample_type)). appended y limit size d) (sym g) ∙ f in
         let long : length (encode sample_datagram u) ≡ n = cc in
         let left : stored d 0 (encode sample_datagram u) ≡ e = cc in
@@ -383,10 +371,10 @@ append_accepted x limit size d o n e f = go (checked_at limit size d) refl f
           stays = ap (drop n) (sym left) ∙ rw long at (held_behind d (encode sample_datagram u));
         }
 
-    fitting : (at count : ℕ) → checked_at limit size d ≡ Ready at count → allows_given sample_type x ≡ true → (b : Bool)
+    fitting : (at count : ℕ) → checked_at limit size d ≡ Ok (at, count) → allows_given sample_type x ≡ true → (b : Bool)
         → leb (size + length (encode_given sample_type x)) limit ≡ b
-        → cond b (afterwards (Done (size + length (encode_given sample_type x))) (stored (stored d size (encode_given sample_type x)) at (octets_of 4 count))) (afterwards NoRoom d)
-        ≡ afterwards (Done n) e
+        → cond b (afterwards (Ok (size + length (encode_given sample_type x))) (stored (stored d size (encode_given sample_type x)) at (octets_of 4 count))) (afterwards (Err NoRoom) d)
+        ≡ afterwards (Ok n) e
         → AppendAccepted x size d n e
     fitting at count c t true l g =
         let w = (given_exactly sample_type x).0 t in
@@ -394,15 +382,12 @@ append_accepted x limit size d o n e f = go (checked_at limit size d) refl f
         good (readied limit size d o at count c) w.0 w.1 w.2 (rw w.1 at h)
     fitting at count c t false l g = let z : ◌≡◌ {A = ℕ} 0 1 = cc in absurd (omega arith)
 
-    ready : (at count : ℕ) → checked_at limit size d ≡ Ready at count → (b : Bool) → allows_given sample_type x ≡ b
-        → cond b (raised limit size (encode_given sample_type x) d at count) (afterwards BadValue d) ≡ afterwards (Done n) e → AppendAccepted x size d n e
+    ready : (at count : ℕ) → checked_at limit size d ≡ Ok (at, count) → (b : Bool) → allows_given sample_type x ≡ b
+        → cond b (raised limit size (encode_given sample_type x) d at count) (afterwards (Err BadValue) d) ≡ afterwards (Ok n) e → AppendAccepted x size d n e
     ready at count c true t g = fitting at count c t (leb (size + length (encode_given sample_type x)) limit) refl g
     ready at count c false t g = let z : ◌≡◌ {A = ℕ} 0 1 = cc in absurd (omega arith)
 
-    answers : (why : WriteAnswer) → checked_at limit size d ≡ NotReady why → afterwards why d ≡ afterwards (Done n) e → ⊥
-    answers why c g = never_done limit size d why n c (let s : why ≡ Done n = cc in s)
-
-    go : (c : Checked) → checked_at limit size d ≡ c → appended_when (allows_given sample_type x) (encode_given sample_type x) limit size d c ≡ afterwards (Done n) e
+    go : (c : Result (ℕ × ℕ) WriteRefusal) → checked_at limit size d ≡ c → appended_when (allows_given sample_type x) (encode_given sample_type x) limit size d c ≡ afterwards (Ok n) e
         → AppendAccepted x size d n e
-    go (NotReady why) c g = absurd (answers why c g)
-    go (Ready at count) c g = ready at count c (allows_given sample_type x) refl g
+    go (Err why) c g = let z : ◌≡◌ {A = ℕ} 0 1 = cc in absurd (omega arith)
+    go (Ok (at, count)) c g = ready at count c (allows_given sample_type x) refl g

@@ -5,31 +5,28 @@
 use extended_data::{Router, Switch};
 use fields::address::{Address, Quad};
 use fields::runs::Passed;
-use form_writer::parts::WriteAnswer;
+use form_writer::parts::WriteRefusal;
 use packet_data::{SampledIpv4, SampledIpv6};
 use reader::sample::FlowWords;
 use std::io;
 use std::io::Write;
 
 // Whether a buffer begins with the wanted octets, and so many were written and read.
-fn agrees(d: &[u8], answer: WriteAnswer, passed: Passed, want: &[u8]) -> bool {
-    let WriteAnswer::Done(length) = answer else {
+fn agrees(d: &[u8], answer: Result<usize, WriteRefusal>, passed: Passed, want: &[u8]) -> bool {
+    let Ok(length) = answer else {
         return false;
     };
     let Passed::Next(end) = passed else {
         return false;
     };
-    if end != length {
-        return false;
-    }
-    check::same(vector_io::part(d, 0, length), want)
+    end == length && check::same(vector_io::part(d, 0, length), want)
 }
 
 fn report<W: Write>(
     out: &mut W,
     name: &[u8],
     d: &[u8],
-    answer: WriteAnswer,
+    answer: Result<usize, WriteRefusal>,
     passed: Passed,
     want: &[u8],
 ) -> io::Result<()> {

@@ -6,7 +6,6 @@
 ghost use Rattle.std.specs.Prelude.{◌≡◌, ◌+◌, ◌≤◌, length};
 
 use fields::words::Entries;
-use form_writer::parts::WriteAnswer;
 use packet_data::{PacketData, SampledHeader};
 use reader::datagram::{Head, HeadRead};
 use reader::sample::{CountersSample, FlowSample, Sample, SampleRead, SampleValues};
@@ -22,16 +21,7 @@ struct Outcome {
     different: u64,
 }
 
-// The length of the datagram written so far; one that no buffer holds where the writer refused.
-fn written(answer: WriteAnswer) -> usize {
-    match answer {
-        WriteAnswer::Done(n) => n,
-        WriteAnswer::BadLimit => usize::MAX,
-        WriteAnswer::BadDatagram => usize::MAX,
-        WriteAnswer::BadValue => usize::MAX,
-        WriteAnswer::NoRoom => usize::MAX,
-    }
-}
+// The functions that append answer the new length, or none where the writer refused.
 
 // Appends a flow sample of a datagram with a sampled header, and its extended entries as octets.
 fn append_header(
@@ -41,48 +31,46 @@ fn append_header(
     flow: FlowSample,
     h: SampledHeader,
     entries: &[u8],
-) -> usize {
-    let words = flow.words;
-    let list = flow.extended_data;
+) -> Option<usize> {
     let text = h.header;
     let n = text.length as usize;
-    if s.len() < text.at {
-        return usize::MAX;
-    }
-    if s.len() - text.at < n {
-        return usize::MAX;
+    if s.len() < text.at || s.len() - text.at < n {
+        return None;
     }
     let header = vector_io::part(s, text.at, text.at + n);
-    let answer = writer::append_header(
+    writer::append_header(
         out,
         65507,
         length,
-        words,
+        flow.words,
         h.protocol,
         h.frame_length,
         header,
-        list.count,
+        flow.extended_data.count,
         entries,
-    );
-    written(answer)
+    )
+    .ok()
 }
 
 // Appends a flow sample that ends at a place of a datagram: its words and its packet data as values, its extended entries as octets.
-fn append_flow(out: &mut [u8], length: usize, s: &[u8], end: usize, flow: FlowSample) -> usize {
+fn append_flow(
+    out: &mut [u8],
+    length: usize,
+    s: &[u8],
+    end: usize,
+    flow: FlowSample,
+) -> Option<usize> {
     let words = flow.words;
     let list = flow.extended_data;
     let entries = vector_io::part(s, list.at, end);
-    let packet = flow.packet_data;
-    match packet {
+    match flow.packet_data {
         PacketData::Header(h) => append_header(out, length, s, flow, h, entries),
-        PacketData::Ipv4(x) => {
-            let answer = writer::append_ipv4(out, 65507, length, words, x, list.count, entries);
-            written(answer)
-        }
-        PacketData::Ipv6(x) => {
-            let answer = writer::append_ipv6(out, 65507, length, words, x, list.count, entries);
-            written(answer)
-        }
+        PacketData::Ipv4(x) => writer::append_ipv4(
+            out, 65507, length, words, x, list.count, entries,
+        ).ok(),
+        PacketData::Ipv6(x) => writer::append_ipv6(
+            out, 65507, length, words, x, list.count, entries,
+        ).ok(),
     }
 }
 
@@ -94,12 +82,11 @@ fn append_numbers(
     version: u32,
     count: usize,
     numbers: &[u64],
-) -> usize {
+) -> Option<usize> {
     if numbers.len() < count {
-        return usize::MAX;
+        return None;
     }
-    let part = &numbers[..count];
-    let answer = writer::append_counters(
+    writer::append_counters(
         out,
         65507,
         length,
@@ -107,9 +94,9 @@ fn append_numbers(
         c.source_id,
         c.sampling_interval,
         version,
-        part,
-    );
-    written(answer)
+        &numbers[..count],
+    )
+    .ok()
 }
 
 // An array for the counters of a body: how many they are, then the counters.
@@ -120,11 +107,11 @@ fn no_values() -> [u64; 38]
 }
 
 // Appends a counter sample of a datagram: all of it as values.
-fn append_counters(out: &mut [u8], length: usize, s: &[u8], c: CountersSample) -> usize {
+fn append_counters(out: &mut [u8], length: usize, s: &[u8], c: CountersSample) -> Option<usize> {
     let body = c.counters;
     let at = body.at;
     if at < 4 {
-        return usize::MAX;
+        return None;
     }
     let mut values = no_values();
     counter_calls::fill_values(s, at - 4, &mut values);
@@ -132,16 +119,15 @@ fn append_counters(out: &mut [u8], length: usize, s: &[u8], c: CountersSample) -
     append_numbers(out, length, c, body.version, count, &values[1..])
 }
 
-// Appends a sample as values and answers the new length.
-fn append_values(out: &mut [u8], length: usize, s: &[u8], x: Sample, end: usize) -> usize {
-    let values = x.values;
-    match values {
+// Appends a sample as values.
+fn append_values(out: &mut [u8], length: usize, s: &[u8], x: Sample, end: usize) -> Option<usize> {
+    match x.values {
         SampleValues::Flow(flow) => append_flow(out, length, s, end, flow),
         SampleValues::Counters(c) => append_counters(out, length, s, c),
     }
 }
 
-// Appends a sample, as values or as octets, and answers the new length.
+// Appends a sample, as values or as octets.
 fn append(
     out: &mut [u8],
     length: usize,
@@ -149,27 +135,32 @@ fn append(
     x: Sample,
     end: usize,
     by_values: bool,
-) -> usize {
+) -> Option<usize> {
     if by_values {
         return append_values(out, length, s, x, end);
     }
     let octets = vector_io::part(s, x.offset, end);
-    let answer = writer::append_octets(out, 65507, length, octets);
-    written(answer)
+    writer::append_octets(out, 65507, length, octets).ok()
 }
 
-// Appends so many samples of a datagram and answers the new length.
-fn append_samples(out: &mut [u8], start: usize, s: &[u8], list: Entries, by_values: bool) -> usize {
+// Appends so many samples of a datagram.
+fn append_samples(
+    out: &mut [u8],
+    start: usize,
+    s: &[u8],
+    list: Entries,
+    by_values: bool,
+) -> Option<usize> {
     let mut length = start;
     let mut at = list.at;
     for _ in 0..list.count {
         let SampleRead::Found(x, end) = reader::sample::read_sample(s, at) else {
-            return usize::MAX;
+            return None;
         };
-        length = append(out, length, s, x, end, by_values);
+        length = append(out, length, s, x, end, by_values)?;
         at = end;
     }
-    length
+    Some(length)
 }
 
 // A buffer in which nothing is taken for written.
@@ -182,14 +173,19 @@ fn cleared() -> [u8; 65507]
 // Writes a datagram again and answers whether it came out the same.
 fn again(s: &[u8], head: Head, by_values: bool) -> bool {
     let mut out = cleared();
-    let agent = head.agent;
-    let answer = writer::start(&mut out, 65507, agent, head.sequence_number, head.uptime);
-    let list = head.samples;
-    let length = append_samples(&mut out, written(answer), s, list, by_values);
-    if length != s.len() {
+    let Ok(start) = writer::start(
+        &mut out,
+        65507,
+        head.agent,
+        head.sequence_number,
+        head.uptime,
+    ) else {
         return false;
-    }
-    check::same(vector_io::part(&out, 0, length), s)
+    };
+    let Some(length) = append_samples(&mut out, start, s, head.samples, by_values) else {
+        return false;
+    };
+    length == s.len() && check::same(vector_io::part(&out, 0, length), s)
 }
 
 fn datagram(s: &[u8]) -> Outcome
@@ -202,14 +198,12 @@ fn datagram(s: &[u8]) -> Outcome
             different: 0,
         };
     };
-    if again(s, head, false) {
-        if again(s, head, true) {
-            return Outcome {
-                ended: false,
-                equal: 1,
-                different: 0,
-            };
-        }
+    if again(s, head, false) && again(s, head, true) {
+        return Outcome {
+            ended: false,
+            equal: 1,
+            different: 0,
+        };
     }
     Outcome {
         ended: false,

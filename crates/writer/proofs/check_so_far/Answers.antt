@@ -8,16 +8,16 @@ use native.Mathlib.Omega.{arith}
 use Rattle.writer.proofs.check_so_far.Goals as goal
 
 pub returns-then-limit-length : goal.returns-then-limit-length
-returns-then-limit-length c = so_far_long _ _ _ (sym c.limit_allowed.ensures ∙ c.if-limit_allowed.true) c.if-limit-length.true
+returns-then-limit-length c = so_far_long _ _ _ (sym c.limit_allowed.ensures ∙ c.if-not-limit_allowed.false) c.if-limit-length.true
 
 pub slice_bounds-read-end : goal.slice_bounds-read-end
 slice_bounds-read-end c =
-    let h : c.args.limit ≤ length c.args.d.now = (limit_allowed_is _ _ (sym c.limit_allowed.ensures ∙ c.if-limit_allowed.true)).inside in
+    let h : c.args.limit ≤ length c.args.d.now = (limit_allowed_is _ _ (sym c.limit_allowed.ensures ∙ c.if-not-limit_allowed.false)).inside in
     rw length-take (omega arith)
 
 pub returns-in_default : goal.returns-in_default
 returns-in_default c =
-    so_far_refused _ _ _ (sym c.limit_allowed.ensures ∙ c.if-limit_allowed.true) c.if-limit-length.false _ _
+    so_far_refused _ _ _ (sym c.limit_allowed.ensures ∙ c.if-not-limit_allowed.false) c.if-limit-length.false _ _
     (sym c.read.ensures ∙ c.in_default.is)
 
 pub overflow_sub-result : goal.overflow_sub-result
@@ -28,10 +28,10 @@ overflow_add-result c =
     let f = head_few (take c.args.length c.args.d.now) (octets_take c.args.length c.args.d.now (λ i. (c.type_inv.d i).fits)) _ (sym c.read.ensures ∙ c.in-Found.is) in
     omega arith
 
-pub returns-then-limit_allowed : goal.returns-then-limit_allowed
-returns-then-limit_allowed c =
-    so_far_found _ _ _ (sym c.limit_allowed.ensures ∙ c.if-limit_allowed.true) c.if-limit-length.false _
+pub returns : goal.returns
+returns c =
+    so_far_found _ _ _ (sym c.limit_allowed.ensures ∙ c.if-not-limit_allowed.false) c.if-limit-length.false _
     (sym c.read.ensures ∙ c.in-Found.is)
 
-pub returns : goal.returns
-returns c = so_far_limit _ _ _ (sym c.limit_allowed.ensures ∙ c.if-limit_allowed.false)
+pub returns-then-not-limit_allowed : goal.returns-then-not-limit_allowed
+returns-then-not-limit_allowed c = so_far_limit _ _ _ (sym c.limit_allowed.ensures ∙ c.if-not-limit_allowed.true)

@@ -1,30 +1,23 @@
+use Prim.Native.Nat.{◌≤◌}
 use native.Mathlib.Omega.{arith}
-use Rattle.sample_writer.proofs.NumberRuns.{put_start, put_next, put_step, put_end}
+use lib.ListN.{length}
+use Rattle.std.proofs.Common.{rules}
+use Rattle.std.proofs.lemmas.List.{length_push}
+use Rattle.std.proofs.lemmas.Slice.Zip.{zip_turn, zip_end}
+use Rattle.sample_writer.proofs.NumberRuns.{put_start, put_step, put_end}
 use Rattle.sample_writer.proofs.counters.put_numbers.Goals as goal
 
-pub loop-i-init : goal.loop-i-init
-loop-i-init c =
-    put_start _ _ _ _ c.requires.0 c.requires.1 c.requires.2
+pub loop-width-init : goal.loop-width-init
+loop-width-init c = put_start _ _ _ _ c.requires.0 c.requires.1 c.requires.2
 
-pub bounds-numbers-i : goal.bounds-numbers-i
-bounds-numbers-i c = omega (arith, c.loop-i.invariant.many)
-
-pub write_number-requires : goal.write_number-requires
-write_number-requires c = let n = put_next _ _ _ _ _ _ _ c.loop-i.invariant c.loop-i-test.true in (n.kind, n.fits)
-
-pub overflow_cast-p : goal.overflow_cast-p
-overflow_cast-p c = omega (arith, c.type_inv.widths c.loop-i.i)
-
-pub overflow_add-p : goal.overflow_add-p
-overflow_add-p c =
-    let n = put_next _ _ _ _ _ _ _ c.loop-i.invariant c.loop-i-test.true in omega (arith, n.width_is, c.loop-i.invariant.room)
-
-pub loop-i-preserved : goal.loop-i-preserved
-loop-i-preserved c =
-    put_step _ _ _ _ _ _ _ _ _ c.loop-i.invariant c.loop-i-test.true c.write_number.ensures
-
-pub shape_of-d : goal.shape_of-d
-shape_of-d c = c.loop-i.invariant.long
+pub loop-width-preserved : goal.loop-width-preserved
+loop-width-preserved c =
+    let t = zip_turn c.args.widths.now c.args.numbers.now c.loop-width.yielded c.into_iter-width-iterator.result c.loop-width.width-iterator c.next.new.self _ (search rules) (search rules) c.loop-width.yielded_by _ c.in-Some.is c.next.ensures.steps in
+    put_step _ _ _ _ _ _ _ _ _ c.loop-width.invariant t.0 _ _ _ (length_push c.loop-width.yielded _) (t.2 0) (t.3 0) c.write_number.ensures
 
 pub returns : goal.returns
-returns c = put_end _ _ _ _ _ _ _ c.loop-i.invariant c.loop-i-test.false
+returns c =
+    let n = zip_end c.args.widths.now c.args.numbers.now c.loop-width.yielded c.into_iter-width-iterator.result c.loop-width.width-iterator c.next.new.self _ (search rules) (search rules) c.loop-width.yielded_by c.in-None.is c.next.ensures.steps in
+    let many = c.loop-width.invariant.many in
+    let end : length c.args.widths.now ≤ length c.loop-width.yielded = omega arith in
+    put_end _ _ _ _ _ _ _ c.loop-width.invariant end

@@ -23,5 +23,5 @@ returns c =
     let t = (value_in_exactly packet_data_type c.args.packet.now (λ i. (packet i).fits) p.0).0 p.1 in
     let words = c.well_formed.1.0 in
     packet_given _ _ p.0 _ _ _ _ p.1
-    (flow_put c.args.words (record { sequence = omega (arith, words); source = omega (arith, words); rate = omega (arith, words); pool = omega (arith, words); drops = omega (arith, words); input = omega (arith, words); output = omega (arith, words) }) p.0 t.0 _ _ (octets_alone c.args.packet.now p.0 t.1) c.args.count (omega arith)
+    (flow_put c.args.words (record { sequence = omega (arith, words); source = omega (arith, words); rate = omega (arith, words); pool = omega (arith, words); drops = omega (arith, words); input = omega (arith, words); output = omega (arith, words) }) p.0 t.0 _ (octets_alone c.args.packet.now p.0 t.1) c.args.count (omega arith)
     c.args.extended.now (λ i. (extended i).fits) _ _ _ c.put_flow.ensures)

@@ -1,29 +1,20 @@
+use mathlib.Core.Logic.{⊎_elim}
 use native.Mathlib.Omega.{arith}
 use Rattle.sflow.specs.Decode.{entries_in}
 use Rattle.sflow.specs.Datagram.{extended_data_type}
 use Rattle.form_writer.specs.Values.{header_value}
-use Rattle.form_writer.proofs.FormValues.{header_low, header_high, header_long, header_valid}
+use Rattle.form_writer.proofs.FormValues.{header_other, header_long, header_valid}
 use Rattle.form_writer.proofs.PacketOctets.{header_words}
 use Rattle.sample_writer.proofs.Flows.{packet_bad, flow_put}
+use Rattle.std.proofs.Common.{rules}
 use Rattle.sample_writer.proofs.sample.write_header_flow.Goals as goal
 
-pub returns-then-protocol-lt1 : goal.returns-then-protocol-lt1
-returns-then-protocol-lt1 c =
+pub returns-then-not-contains : goal.returns-then-not-contains
+returns-then-not-contains c =
     packet_bad c.args.words (header_value c.args.protocol c.args.frame_length c.args.header.now)
     (entries_in extended_data_type c.args.count c.args.extended.now) _
-    (header_low _ _ c.args.header.now c.if-protocol-lt1.true)
-
-pub returns-then-protocol-gt13 : goal.returns-then-protocol-gt13
-returns-then-protocol-gt13 c =
-    packet_bad c.args.words (header_value c.args.protocol c.args.frame_length c.args.header.now)
-    (entries_in extended_data_type c.args.count c.args.extended.now) _
-    (header_high _ _ c.args.header.now c.if-protocol-gt13.true)
-
-pub returns-then-header-gt256 : goal.returns-then-header-gt256
-returns-then-header-gt256 c =
-    packet_bad c.args.words (header_value c.args.protocol c.args.frame_length c.args.header.now)
-    (entries_in extended_data_type c.args.count c.args.extended.now) _
-    (header_long _ _ c.args.header.now c.if-header-gt256.true)
+    (⊎_elim (λ e. header_other _ _ c.args.header.now (search rules)) (λ e. header_long _ _ c.args.header.now e.1)
+    c.then-not-contains.either)
 
 pub returns : goal.returns
 returns c =
@@ -32,6 +23,6 @@ returns c =
     let words = c.well_formed.1.0 in
     flow_put c.args.words (record { sequence = omega (arith, words); source = omega (arith, words); rate = omega (arith, words); pool = omega (arith, words); drops = omega (arith, words); input = omega (arith, words); output = omega (arith, words) })
     (header_value c.args.protocol c.args.frame_length c.args.header.now)
-    (header_valid c.args.protocol c.args.frame_length c.args.header.now c.ranges.protocol.fits c.if-protocol-lt1.false c.if-protocol-gt13.false c.ranges.frame_length.fits
-    c.if-header-gt256.false (λ i. (header i).fits)) _ _ (header_words c.args.protocol c.args.frame_length c.args.header.now) c.args.count c.ranges.count.fits
+    (header_valid c.args.protocol c.args.frame_length c.args.header.now c.ranges.protocol.fits (search rules) (search rules) c.ranges.frame_length.fits
+    (omega arith) (λ i. (header i).fits)) _ (header_words c.args.protocol c.args.frame_length c.args.header.now) c.args.count c.ranges.count.fits
     c.args.extended.now (λ i. (extended i).fits) _ _ _ c.put_flow.ensures

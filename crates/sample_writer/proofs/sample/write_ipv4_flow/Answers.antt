@@ -1,8 +1,9 @@
 use native.Mathlib.Omega.{arith}
 use Rattle.form_writer.specs.Values.{ipv4_value}
 use Rattle.form_writer.proofs.FormValues.{ipv4_valid}
-use Rattle.form_writer.proofs.PacketOctets.{ipv4_octets}
-use Rattle.sample_writer.proofs.Flows.{flow_put, words_alone}
+use mathlib.Core.List.{append-nil}
+use mathlib.Core.Path.{◌∙◌}
+use Rattle.sample_writer.proofs.Flows.{flow_put}
 use Rattle.sample_writer.proofs.sample.write_ipv4_flow.Goals as goal
 
 pub returns : goal.returns
@@ -12,6 +13,6 @@ returns c =
     let words = c.well_formed.1.0 in
     let packet = c.well_formed.1.1.0 in
     flow_put c.args.words (record { sequence = omega (arith, words); source = omega (arith, words); rate = omega (arith, words); pool = omega (arith, words); drops = omega (arith, words); input = omega (arith, words); output = omega (arith, words) }) (ipv4_value x)
-    (ipv4_valid _ _ _ _ _ _ _ _ (omega (arith, packet)) (omega (arith, packet)) (omega (arith, packet)) (omega (arith, packet)) (omega (arith, packet)) (omega (arith, packet)) (omega (arith, packet)) (omega (arith, packet))) _ _
-    (words_alone _ (ipv4_value x) (ipv4_octets _ _ _ _ _ _ _ _)) c.args.count (omega arith) c.args.extended.now (λ i. (extended i).fits) _ _ _
+    (ipv4_valid _ _ _ _ _ _ _ _ (omega (arith, packet)) (omega (arith, packet)) (omega (arith, packet)) (omega (arith, packet)) (omega (arith, packet)) (omega (arith, packet)) (omega (arith, packet)) (omega (arith, packet))) _
+    (append-nil _ ∙ c.ipv4_words-head.ensures) c.args.count (omega arith) c.args.extended.now (λ i. (extended i).fits) _ _ _
     c.put_flow.ensures

@@ -2,7 +2,7 @@ use mathlib.Core.Path.{sym, ◌∙◌}
 use Rattle.sflow.specs.Datagram.{sample_type}
 use Rattle.form_writer.proofs.Allowances.{none_given}
 use Rattle.form_writer.proofs.Allowed.{value_there, value_elsewhere, value_nowhere}
-use Rattle.sample_writer.proofs.OneSample.{sample_done, sample_full}
+use Rattle.sample_writer.proofs.OneSample.{sample_written}
 use Rattle.sample_writer.proofs.sample.write_sample.Goals as goal
 
 pub returns-in_default : goal.returns-in_default
@@ -13,16 +13,9 @@ returns-then-end-sample c =
     none_given sample_type _ _
     (value_elsewhere sample_type c.args.sample.now _ (sym c.pass_sample.ensures ∙ c.in-Next.is) c.if-end-sample.true)
 
-pub returns-in-WrittenTo : goal.returns-in-WrittenTo
-returns-in-WrittenTo c =
+pub returns : goal.returns
+returns c =
     let octets = c.type_inv.sample in
     let sample = c.args.sample.now in
     let v = value_there sample_type sample _ (sym c.pass_sample.ensures ∙ c.in-Next.is) c.if-end-sample.false in
-    sample_done sample (λ i. (octets i).fits) v.0 _ _ _ _ v.1 c.write_octets.ensures c.in-WrittenTo.is
-
-pub returns-in-Full : goal.returns-in-Full
-returns-in-Full c =
-    let octets = c.type_inv.sample in
-    let sample = c.args.sample.now in
-    let v = value_there sample_type sample _ (sym c.pass_sample.ensures ∙ c.in-Next.is) c.if-end-sample.false in
-    sample_full sample (λ i. (octets i).fits) v.0 _ _ _ v.1 c.write_octets.ensures c.in-Full.is
+    sample_written sample (λ i. (octets i).fits) v.0 _ _ _ v.1 c.write_parts.ensures
