@@ -3,7 +3,7 @@
 #![tactic(auto)]
 
 use packet::Attributes;
-use reader::sample::{SampleRead, SampleValues};
+use reader::sample::SampleValues;
 use std::io;
 use std::io::{Read, Write};
 use vector_io::RecordRead;
@@ -32,7 +32,7 @@ fn no_flow_sample<W: Write>(out: &mut W) -> io::Result<()> {
 }
 
 fn vector<W: Write>(out: &mut W, s: &[u8]) -> io::Result<()> {
-    let SampleRead::Found(x, end) = reader::sample::read_sample(s, 0) else {
+    let Ok((x, end)) = reader::sample::read_sample(s, 0) else {
         return no_flow_sample(out);
     };
     if end != s.len() {

@@ -2,11 +2,10 @@
 use Rattle.std.specs.Prelude.{ℕ, List, [], ◌∷◌, cond, length, set, replicate, eqb, Result, Ok, Err}
 use Rattle.sflow.specs.Decode.{decode, mapped}
 use Rattle.sflow.specs.Datagram.{sample_type}
+use Rattle.reader.specs.declared.sample.Sample.{Sample}
 use Rattle.reader.specs.declared.sample.FlowSample.{FlowSample}
 use Rattle.reader.specs.declared.sample.SampleValues.{SampleValues}
 use Rattle.reader.specs.declared.sample.SampleValues.TheVariants.{Flow, Counters}
-use Rattle.reader.specs.declared.sample.SampleRead.{SampleRead}
-use Rattle.reader.specs.declared.sample.SampleRead.TheVariants.{Found, Refused as RefusedSample}
 use Rattle.reader.specs.Samples.{sample_of, as_sample}
 use Rattle.packet.specs.Attributes.{attributes_of, attribute}
 use Rattle.rules.specs.declared.Item.{Item}
@@ -19,6 +18,8 @@ use Rattle.engine.specs.declared.FlowKey.{FlowKey}
 use Rattle.engine.specs.declared.EngineResult.{EngineResult}
 use Rattle.engine.specs.declared.EngineRefusal.{EngineRefusal}
 use Rattle.engine.specs.declared.EngineRefusal.TheVariants.{NotOneFlowSample, RuleSet}
+use Rattle.std.specs.Prelude.{Result, Ok, Err}
+use Rattle.sflow.specs.declared.Refused.{Refused}
 
 -- what the machine has ended with, or why there is no result
 abbrev pub EngineAnswer : Type 0
@@ -77,9 +78,9 @@ abbrev pub flow_only : SampleValues → Sampled
 flow_only (Flow x) = flow x
 flow_only (Counters x) = other
 
-abbrev pub exactly : ℕ → SampleRead → Sampled
-exactly end (Found x next) = cond (eqb next end) (flow_only x.values) other
-exactly end (RefusedSample why p) = other
+abbrev pub exactly : ℕ → Result (Sample × ℕ) Refused → Sampled
+exactly end (Ok r) = cond (eqb r.1 end) (flow_only r.0.values) other
+exactly end (Err r) = other
 
 unfoldable pub flow_in : List ℕ → Sampled
 flow_in x = exactly (length x) (as_sample 0 (mapped (sample_of 0) (decode sample_type x 0)))

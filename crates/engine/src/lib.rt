@@ -14,7 +14,7 @@ ghost use Rattle.engine.specs.Results.{engine_number, put, key_of, result_of, fl
 ghost use Rattle.engine.specs.declared.EngineRefusal.TheVariants.{RuleSet};
 
 use packet::Attributes;
-use reader::sample::{FlowSample, Sample, SampleRead, SampleValues};
+use reader::sample::{FlowSample, Sample, SampleValues};
 use rules::{Action, CheckRefused, Item, MAX_CALLS, MAX_ITEMS, MachineAnswer, Rule};
 use stack::Stack;
 
@@ -278,7 +278,7 @@ fn run_accepted(s: &[u8], x: &[u8]) -> Result<EngineResult, EngineRefusal>
     requires { check s.now ≡ accepted }
     ensures { result ≡ of_sample s.now x.now (flow_in x.now) }
 {
-    let SampleRead::Found(found, end) = reader::sample::read_sample(x, 0) else {
+    let Ok((found, end)) = reader::sample::read_sample(x, 0) else {
         return Err(EngineRefusal::NotOneFlowSample);
     };
     if end != x.len() {

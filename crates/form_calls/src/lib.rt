@@ -13,11 +13,12 @@ ghost use Rattle.write_reports.specs.WriteReports.{hand_over};
 ghost use Rattle.form_calls.specs.Forms.{header_from, ipv4_in, ipv4_from, quad_in, ipv6_in, ipv6_from, switch_from, router_from, gateway_from, user_from, url_from, segment_from, flow_words_in, flow_from, form_written};
 
 use extended_data::{Router, Switch};
-use fields::address::{Address, Quad};
+use fields::address::Address;
 use form_writer::parts::WriteRefusal;
 use packet_data::{SampledIpv4, SampledIpv6};
 use reader::sample::FlowWords;
 use write_reports::report;
+use xdr::Quad;
 
 // A sampled header.
 fn header(words: &[u32], octets: &[u8], buffer: &mut [u8]) -> Result<usize, WriteRefusal>

@@ -8,10 +8,10 @@ use lib.ListN.{length, get_or, take, length-append, take-append-drop}
 use lib.Seq.{take-suc, length-take-le}
 use Rattle.xdr.specs.Numbers.{octets_of}
 use Rattle.xdr.specs.Writes.{stored, write_at, afterwards}
-use Rattle.xdr.specs.declared.Written.{Written}
 use Rattle.xdr.proofs.Octets.{octets_length}
 use Rattle.xdr.proofs.Writing.{stored_next, stored_length, wrote_fits}
 use Rattle.form_writer.specs.Parts.{words_octets}
+use Rattle.std.specs.Prelude.{Option, Some, None}
 
 pub words_length : (ws : List ℕ) → length (words_octets ws) ≡ length ws * 4
 unfolding words_octets flat_map
@@ -37,7 +37,7 @@ unfolding stored words_octets flat_map
 stored_nothing d at = let z : at + 0 ≡ at = omega arith in rw z (take-append-drop at d)
 
 -- one word more
-pub words_next : (d now : List ℕ) (at : ℕ) (ws : List ℕ) (i p : ℕ) (r : Written) (e : List ℕ) → at + length ws * 4 ≤ length d → i < length ws
+pub words_next : (d now : List ℕ) (at : ℕ) (ws : List ℕ) (i p : ℕ) (r : Option ℕ) (e : List ℕ) → at + length ws * 4 ≤ length d → i < length ws
     → p ≡ at + i * 4 → now ≡ stored d at (words_octets (take i ws)) → afterwards r e ≡ write_at now p (octets_of 4 (get_or ws i 0))
     → e ≡ stored d at (words_octets (take (i + 1) ws))
 words_next d now at ws i p r e room h q same f' =

@@ -9,7 +9,6 @@ ghost use Rattle.form_writer.specs.Values.{switch_value, router_value, segment_v
 use crate::parts;
 use crate::parts::{Part, WriteRefusal};
 use extended_data::{Router, Switch};
-use fields::runs::Passed;
 
 pub fn write_switch(d: &mut [u8], x: Switch) -> Result<usize, WriteRefusal>
     ensures { afterwards result d.new ≡ write_given extended_data_type (some (switch_value x)) d.old }
@@ -58,7 +57,7 @@ pub fn write_gateway(
     ensures { afterwards result d.new
         ≡ write_given extended_data_type (gateway_given router_as src_as src_peer_as count path.now communities.now localpref) d.old }
 {
-    let Passed::Next(end) = extended_data::pass_segments(path, 0, count) else {
+    let Ok(end) = extended_data::pass_segments(path, 0, count) else {
         return Err(WriteRefusal::BadValue);
     };
     if end != path.len() {

@@ -1,5 +1,5 @@
 -- What the table's answers say of the rows. Assumes nothing.
-use Rattle.std.proofs.Common.{◌≡◌, ℕ, ◌^◌, ◌<◌, ◌≤◌, Bool, true, false, cond, not, ◌&&◌, eqb, ltb, leb, ◌≢◌, Ok, Err, ◌⊎◌, ◌↔◌, List, length, get_or, set, sym, refl, ap, ◌∙◌, inl, inr, true≢false, arith, get_or-set_other, ltb-false, ltb-true, le-ltb, lt-ltb}
+use Rattle.std.proofs.Common.{◌≡◌, ℕ, ◌^◌, ◌<◌, ◌≤◌, Bool, true, false, cond, not, ◌&&◌, eqb, ltb, leb, ◌≢◌, Ok, Err, ◌⊎◌, ◌↔◌, List, length, get_or, set, sym, refl, ap, ◌∙◌, inl, inr, true≢false, arith, get_or-set_other, ltb-false, ltb-true, le-ltb}
 use mathlib.Core.Bool.{false≢true}
 use lib.Seq.{set-get_or}
 use Rattle.ledger.specs.declared.FlowEntry.{FlowEntry}

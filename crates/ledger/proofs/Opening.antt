@@ -1,5 +1,5 @@
 -- What a run of samples leaves of a source that has no row when it begins. Assumes nothing.
-use Rattle.std.proofs.Common.{◌≡◌, ℕ, zero, suc, ◌+◌, ◌%◌, ◌^◌, ◌<◌, ◌≤◌, Bool, true, false, cond, ◌&&◌, ltb, ◌⊎◌, ◌≢◌, Ok, Err, List, [], ◌∷◌, ◌++◌, length, get_or, set, sym, refl, ap, ◌∙◌, subst, inl, inr, arith, length-set, get_or-set_other, get_or-set_same, ltb-false, ltb-true, le-ltb, lt-ltb}
+use Rattle.std.proofs.Common.{◌≡◌, ℕ, ◌+◌, ◌%◌, ◌^◌, ◌<◌, ◌≤◌, Bool, true, false, cond, ◌&&◌, ltb, ◌⊎◌, ◌≢◌, Ok, Err, List, [], ◌∷◌, ◌++◌, length, get_or, set, sym, refl, ap, ◌∙◌, subst, inl, inr, arith, length-set, get_or-set_other, get_or-set_same, ltb-false, ltb-true, le-ltb, lt-ltb}
 use Rattle.xdr.proofs.Tests.{and_parts}
 use Rattle.ledger.specs.declared.FlowEntry.{FlowEntry}
 use Rattle.ledger.specs.declared.Row.{Row}
@@ -7,7 +7,7 @@ use Rattle.ledger.specs.declared.EntryRefusal.TheVariants.{TableFull}
 use Rattle.ledger.specs.Ledger.{RowEntered}
 use Rattle.ledger.specs.Ledger.{TableEntered}
 use Rattle.ledger.specs.Ledger.{entry_number, Source, same, source_of, row_source, same_source, opened, advanced, later, updated, is_of, is_free, first_row, free_row, entered}
-use Rattle.std.proofs.lemmas.List.Sums.{position_or_len_is, passes_at_first, fails_before_first}
+use Rattle.std.proofs.lemmas.List.Sums.{position_or_len_is, passes_at_first}
 use Rattle.std.proofs.lemmas.List.Folds.{position_or_len-set}
 use Rattle.ledger.specs.Runs.{table_after, accepts, accepted_later, lost_sum, pool_sum, Lowest, AllOthers, NoRow, NoSample, LowestFree, OpensInside, RefusedInside, FirstOf}
 use Rattle.ledger.proofs.Updates.{opens, of_source}

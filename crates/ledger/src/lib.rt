@@ -4,8 +4,9 @@ ghost use Rattle.std.specs.Prelude.{◌≡◌, position};
 ghost use Rattle.std.specs.Option.{option_or};
 ghost use Rattle.ledger.specs.Ledger.{entry_number, free_row, same_address, source_of, same_source, row_or_refusal, opened, later, updated, is_of, is_free, entered};
 
-use fields::address::{Address, Quad};
+use fields::address::Address;
 use reader::sample::FlowWords;
+use xdr::Quad;
 
 // What the ledger takes of a flow sample: the agent's address, from the datagram's head, and the words that the sample begins with.
 #[derive(Clone, Copy)]

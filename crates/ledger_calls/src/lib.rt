@@ -8,10 +8,11 @@ ghost use Rattle.numbers.specs.Reports.{filled};
 ghost use Rattle.numbers.specs.Addresses.{address_with};
 ghost use Rattle.ledger_calls.specs.LedgerTable.{agent_in, row_in, rows_in, row_numbers, flow_entry, numbers_after, rows_told, entered_table};
 
-use fields::address::{Address, Quad};
+use fields::address::Address;
 use ledger::{EntryRefusal, FlowEntry, ROWS, Row};
 use numbers::fill;
 use reader::sample::FlowWords;
+use xdr::Quad;
 
 fn word(x: u64) -> u32
     ensures { result ≡ x % 2 ^ 32 }

@@ -2,12 +2,12 @@
 // every value of the 64 rows where the table is asked for. The operations and the expected text come from the second program in conformance/.
 #![tactic(auto)]
 
-use fields::address::{Address, Quad};
+use fields::address::Address;
 use ledger::{EntryRefusal, FlowEntry, ROWS, Row};
 use reader::sample::FlowWords;
 use std::io;
 use std::io::{Read, Write};
-use xdr::{HyperRead, WordRead};
+use xdr::Quad;
 
 fn show_row<W: Write>(out: &mut W, i: usize, row: Row) -> io::Result<()> {
     vector_io::line(
@@ -43,7 +43,7 @@ fn show_answer<W: Write>(out: &mut W, answer: Result<(), EntryRefusal>) -> io::R
 
 // The word at a place of a record, which has all of its words.
 fn word_at(s: &[u8], at: usize) -> u32 {
-    let WordRead::Word(n, _) = xdr::read_word(s, at) else {
+    let Ok((n, _)) = xdr::read_word(s, at) else {
         return 0;
     };
     n
@@ -51,7 +51,7 @@ fn word_at(s: &[u8], at: usize) -> u32 {
 
 // A total: the high word, then the low one.
 fn total_at(s: &[u8], at: usize) -> u64 {
-    let HyperRead::Hyper(n, _) = xdr::read_hyper(s, at) else {
+    let Ok((n, _)) = xdr::read_hyper(s, at) else {
         return 0;
     };
     n

@@ -9,11 +9,7 @@ use lib.ListN.{length, get_or, drop}
 use lib.Dec.{leb, ltb, eqb}
 use borrow.Author.Tests.{leb-true, leb-false, ltb-true, ltb-false, eqb-true, eqb-false}
 use Rattle.reader.specs.Datagrams.{datagram_read}
-use Rattle.xdr.specs.declared.Written.{Written}
-use Rattle.xdr.specs.declared.Written.TheVariants.{WrittenTo, Full}
 use Rattle.xdr.specs.Writes.{stored, Afterwards, afterwards}
-use Rattle.reader.specs.declared.datagram.HeadRead.{HeadRead}
-use Rattle.reader.specs.declared.datagram.HeadRead.TheVariants.{Found, Refused}
 use Rattle.record_lines.specs.declared.Listed.{Listed}
 use Rattle.record_lines.specs.Lines.{write_line}
 use Rattle.record_lines.specs.Records.{record_lines, room_of, answer_to, list_record}
@@ -30,6 +26,11 @@ use Rattle.listing.proofs.Stops.{list_stops}
 use Rattle.numbers.specs.Reports.{Report}
 use Rattle.line_calls.specs.ListedLines.{stop_number, frame_report, listed_report, written_report}
 use Rattle.line_calls.specs.LineNumbers.{Marked, FrameTold, RecordsTold, RecordTold, LinesTold}
+use Rattle.std.specs.Prelude.{Result, Ok, Err}
+use Rattle.sflow.specs.declared.Refused.{Refused}
+use Rattle.sflow.specs.Decode.{refused_at, as_read}
+use Rattle.std.specs.Prelude.{Option, Some, None}
+use Rattle.reader.specs.declared.datagram.Head.{Head}
 
 -- ---- the records of a buffer
 
@@ -74,15 +75,15 @@ records_told d s t r e h =
 -- ---- lines
 
 module _ (room : ℕ) (d : List ℕ) (at : ℕ) (xs : List ℕ) where
-  abbrev LinesOf : Afterwards Written → Type 0
+  abbrev LinesOf : Afterwards (Option ℕ) → Type 0
   LinesOf (afterwards w e) = LinesTold room d at xs (written_report w) e
 
   -- what a writer of lines answers and leaves, by its contract
-  pub lines_told : (w : Written) (e : List ℕ) → afterwards w e ≡ write_line room d at xs → LinesTold room d at xs (written_report w) e
+  pub lines_told : (w : Option ℕ) (e : List ℕ) → afterwards w e ≡ write_line room d at xs → LinesTold room d at xs (written_report w) e
   unfolding write_line
   lines_told w e h = subst LinesOf (sym h) (go (leb (at + room) (length d)) refl)
     where
-      go : (b : Bool) → leb (at + room) (length d) ≡ b → LinesOf (cond b (afterwards (WrittenTo (at + length xs)) (stored d at xs)) (afterwards Full d))
+      go : (b : Bool) → leb (at + room) (length d) ≡ b → LinesOf (cond b (afterwards (Some (at + length xs)) (stored d at xs)) (afterwards None d))
       go true k =
           let fits : at + room ≤ length d = leb-true _ _ k in
           record {
@@ -103,26 +104,26 @@ module _ (room : ℕ) (d : List ℕ) (at : ℕ) (xs : List ℕ) where
           }
 
 -- what `listing::end_lines` answers and leaves, by its contract
-pub end_told : (d : List ℕ) (at : ℕ) (t : State) (bad : Bool) (r : Written) (e : List ℕ) → afterwards r e ≡ write_line 123 d at (end_lines t bad)
+pub end_told : (d : List ℕ) (at : ℕ) (t : State) (bad : Bool) (r : Option ℕ) (e : List ℕ) → afterwards r e ≡ write_line 123 d at (end_lines t bad)
     → LinesTold 123 d at (end_lines t bad) (written_report r) e
 end_told d at t bad r e h = lines_told 123 d at (end_lines t bad) r e h
 
-abbrev found_rank : HeadRead → ℕ
-found_rank (Found h) = 0
-found_rank (Refused why p) = 1
+abbrev found_rank : Result Head Refused → ℕ
+found_rank (Ok h) = 0
+found_rank  (Err e) = 1
 
-abbrev samples_in : HeadRead → ℕ
-samples_in (Found h) = h.samples.count
-samples_in (Refused why p) = 0
+abbrev samples_in : Result Head Refused → ℕ
+samples_in (Ok h) = h.samples.count
+samples_in  (Err e) = 0
 
 module _ (d : List ℕ) (at n : ℕ) (s : List ℕ) where
   abbrev RecordOf : Afterwards (Option Listed) → Type 0
   RecordOf (afterwards l e) = RecordTold d at n s (listed_report l) e
 
   -- an accepted datagram, or a refused one, where there is room
-  listed : (a : HeadRead) → datagram_read s ≡ a → at + room_of (datagram_read s) ≤ length d
+  listed : (a : Result Head Refused) → datagram_read s ≡ a → at + room_of (datagram_read s) ≤ length d
       → RecordTold d at n s (listed_report (Some (answer_to a (at + length (record_lines n s))))) (stored d at (record_lines n s))
-  listed (Found h) f k =
+  listed (Ok h) f k =
       record {
         no_room = (λ q. absurd (omega arith), λ q. absurd (omega arith));
         written = (λ q. k, λ q. refl);
@@ -131,12 +132,12 @@ module _ (d : List ℕ) (at n : ℕ) (s : List ℕ) where
         stores = λ q. refl;
         keeps = λ q. absurd (omega arith);
       }
-  listed (Refused why p) f k =
+  listed  (Err e) f k =
       record {
         no_room = (λ q. absurd (omega arith), λ q. absurd (omega arith));
         written = (λ q. k, λ q. refl);
         accepted = λ g e q. let z : ◌≡◌ {A = ℕ} 1 0 = ap found_rank (sym f ∙ e) in absurd (omega arith);
-        refused = λ why p e q. refl;
+        refused = λ e.why e.at e q. refl;
         stores = λ q. refl;
         keeps = λ q. absurd (omega arith);
       }

@@ -4,13 +4,15 @@ use Rattle.reader.specs.Datagrams.{datagram_read}
 use Rattle.xdr.specs.Writes.{stored}
 use Rattle.sflow.specs.declared.Refusal.{Refusal}
 use Rattle.reader.specs.declared.datagram.Head.{Head}
-use Rattle.reader.specs.declared.datagram.HeadRead.TheVariants.{Found, Refused}
 use Rattle.record_lines.specs.Records.{record_lines, room_of}
 use Rattle.listing.specs.declared.FrameFault.TheVariants.{Short, Wrong}
 use Rattle.listing.specs.declared.Place.{Place}
 use Rattle.listing.specs.Captures.{length_in, frame_of, NoRoomFor}
 use Rattle.numbers.specs.Reports.{Report}
 use Rattle.line_calls.specs.ListedLines.{place_report}
+use Rattle.std.specs.Prelude.{Result, Ok, Err}
+use Rattle.sflow.specs.declared.Refused.{Refused}
+use Rattle.sflow.specs.Decode.{refused_at, as_read}
 
 -- the mark 73 46
 abbrev pub Marked : List ℕ → Type 0
@@ -33,8 +35,8 @@ pub record RecordsTold (d s : List ℕ) (p : Place) : Type 0 where
 pub record RecordTold (d : List ℕ) (at n : ℕ) (s : List ℕ) (r : Report) (e : List ℕ) : Type 0 where
   pub no_room : (r.number ≡ 20) ↔ (length d < at + room_of (datagram_read s))
   pub written : (r.number ≡ 0) ↔ (at + room_of (datagram_read s) ≤ length d)
-  pub accepted : (h : Head) → datagram_read s ≡ Found h → r.number ≡ 0 → r.numbers ≡ (at + length (record_lines n s)) ∷ h.samples.count ∷ []
-  pub refused : (why : Refusal) (p : ℕ) → datagram_read s ≡ Refused why p → r.number ≡ 0 → r.numbers ≡ (at + length (record_lines n s)) ∷ []
+  pub accepted : (h : Head) → datagram_read s ≡ Ok h → r.number ≡ 0 → r.numbers ≡ (at + length (record_lines n s)) ∷ h.samples.count ∷ []
+  pub refused : (why : Refusal) (p : ℕ) → datagram_read s ≡ Err (refused_at why p) → r.number ≡ 0 → r.numbers ≡ (at + length (record_lines n s)) ∷ []
   pub stores : r.number ≡ 0 → e ≡ stored d at (record_lines n s)
   pub keeps : r.number ≡ 20 → e ≡ d
 

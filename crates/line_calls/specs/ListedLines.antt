@@ -1,8 +1,6 @@
 -- The listing of a capture's records for C and Rust: a number, the lent output, and six lent numbers.
 use Rattle.std.specs.Prelude.{ℕ, cond, List, [], ◌∷◌, length, get_or, leb, Option, Some, None, Ok, Err}
-use Rattle.xdr.specs.declared.Written.{Written}
 use Rattle.xdr.specs.Writes.{Afterwards, afterwards}
-use Rattle.xdr.specs.declared.Written.TheVariants.{WrittenTo, Full}
 use Rattle.record_lines.specs.declared.Listed.{Listed}
 use Rattle.record_lines.specs.declared.Listed.TheVariants.{Accepted, Refused as RefusedRecord}
 use Rattle.listing.specs.Captures.{Frame}
@@ -13,6 +11,7 @@ use Rattle.listing.specs.declared.State.{State}
 use Rattle.listing.specs.declared.Place.{Place}
 use Rattle.listing.specs.Captures.{list_all}
 use Rattle.numbers.specs.Reports.{Report, report, tell, Handed, handed, with_buffer}
+use Rattle.std.specs.Prelude.{Option, Some, None}
 
 -- ---- the answers as numbers: document 01 numbers a capture's records in no way but by their lines, and has 20 for what does not fit
 
@@ -38,9 +37,9 @@ listed_report (Some (RefusedRecord next)) = report 0 (next ∷ [])
 listed_report None = report 20 []
 
 -- lines written: 0 and the offset behind them; 20 where the output may be too short for them
-abbrev pub written_report : Written → Report
-written_report (WrittenTo next) = report 0 (next ∷ [])
-written_report Full = report 20 []
+abbrev pub written_report : Option ℕ → Report
+written_report (Some next) = report 0 (next ∷ [])
+written_report None = report 20 []
 
 -- ---- the records of a capture
 
@@ -70,5 +69,5 @@ abbrev pub counted_to : ℕ → ℕ → ℕ → ℕ → State
 counted_to offset records refused samples = record { offset = offset; records = records; refused = refused; samples = samples }
 
 -- lines written to the output's front, with the array that their length goes into
-abbrev pub ended_at : Afterwards Written → List ℕ → Handed
+abbrev pub ended_at : Afterwards (Option ℕ) → List ℕ → Handed
 ended_at (afterwards w d) xs = with_buffer d (tell (written_report w) xs)

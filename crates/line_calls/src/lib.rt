@@ -10,7 +10,6 @@ ghost use Rattle.line_calls.specs.ListedLines.{stop_number, state_in, place_repo
 
 use listing::{Place, State, Stop};
 use numbers::fill;
-use xdr::Written;
 
 // The number of what stopped the listing.
 fn stop_number(stop: Stop) -> u32
@@ -92,7 +91,7 @@ pub fn end_lines(
         refused,
         samples,
     };
-    let Written::WrittenTo(n) = listing::end_lines(output, 0, state, bad != 0) else {
+    let Some(n) = listing::end_lines(output, 0, state, bad != 0) else {
         return 20;
     };
     fill(out, &[n as u64]);

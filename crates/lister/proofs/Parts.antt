@@ -15,7 +15,6 @@ use Rattle.xdr.specs.Numbers.{Octets}
 use Rattle.xdr.proofs.Writing.{stored_pasted}
 use Rattle.sflow.proofs.Slices.{octets_drop, octets_take}
 use Rattle.xdr.specs.Writes.{afterwards, stored}
-use Rattle.xdr.specs.declared.Written.TheVariants.{WrittenTo, Full}
 use Rattle.listing.specs.declared.State.{State}
 use Rattle.listing.specs.declared.Place.{Place}
 use Rattle.record_lines.specs.Lines.{write_line}
@@ -32,6 +31,7 @@ use Rattle.listing.proofs.Stops.{list_stops}
 use Rattle.listing.proofs.Texts.{Told, list_all_told}
 use Rattle.lister.specs.declared.Progress.{Progress}
 use Rattle.lister.specs.Held.{is_full, is_bad, Listed}
+use Rattle.std.specs.Prelude.{Option, Some, None}
 
 -- ---- octets listed from an offset on
 
@@ -157,11 +157,11 @@ front_stored d from end z h =
 -- ---- the last lines
 
 -- lines written at the front lie inside
-pub line_inside : (d e xs : List ℕ) (room n : ℕ) → afterwards (WrittenTo n) e ≡ write_line room d 0 xs → length e ≡ length d → n ≤ length d
+pub line_inside : (d e xs : List ℕ) (room n : ℕ) → afterwards (Some n) e ≡ write_line room d 0 xs → length e ≡ length d → n ≤ length d
 unfolding write_line
 line_inside d e xs room n h k = go (leb (0 + room) (length d)) h
   where
-    go : (b : Bool) → afterwards (WrittenTo n) e ≡ cond b (afterwards (WrittenTo (0 + length xs)) (stored d 0 xs)) (afterwards Full d) → n ≤ length d
+    go : (b : Bool) → afterwards (Some n) e ≡ cond b (afterwards (Some (0 + length xs)) (stored d 0 xs)) (afterwards None d) → n ≤ length d
     go true p =
         let i : n ≡ 0 + length xs = cc in
         let j : e ≡ stored d 0 xs = cc in
@@ -170,11 +170,11 @@ line_inside d e xs room n h k = go (leb (0 + room) (length d)) h
     go false p = let z : ◌≡◌ {A = ℕ} 0 1 = cc in absurd (omega arith)
 
 -- and are the front
-pub line_front : (d e xs : List ℕ) (room n : ℕ) → afterwards (WrittenTo n) e ≡ write_line room d 0 xs → take n e ≡ xs
+pub line_front : (d e xs : List ℕ) (room n : ℕ) → afterwards (Some n) e ≡ write_line room d 0 xs → take n e ≡ xs
 unfolding write_line stored
 line_front d e xs room n h = go (leb (0 + room) (length d)) h
   where
-    go : (b : Bool) → afterwards (WrittenTo n) e ≡ cond b (afterwards (WrittenTo (0 + length xs)) (stored d 0 xs)) (afterwards Full d) → take n e ≡ xs
+    go : (b : Bool) → afterwards (Some n) e ≡ cond b (afterwards (Some (0 + length xs)) (stored d 0 xs)) (afterwards None d) → take n e ≡ xs
     go true p =
         let k : n ≡ 0 + length xs = cc in
         let i : n ≡ length xs = k ∙ zero-add (length xs) in

@@ -8,8 +8,6 @@ use Rattle.std.proofs.lemmas.Bool.{eqb-true, ltb-false}
 use Rattle.xdr.specs.Numbers.{Octets}
 use Rattle.sflow.proofs.Slices.{octets_drop}
 use Rattle.reader.specs.Datagrams.{datagram_read}
-use Rattle.reader.specs.declared.datagram.HeadRead.{HeadRead}
-use Rattle.reader.specs.declared.datagram.HeadRead.TheVariants.{Found, Refused}
 use Rattle.xdr.specs.Writes.{stored, Afterwards, afterwards}
 use Rattle.record_lines.specs.Records.{room_of, answer_to, record_lines, list_record}
 use Rattle.listing.specs.Captures.{frame_of, length_in, datagram_in, more, behind, stopped_as, on_frame, on_listing, go_on, list_step, is_over, list_from, list_all, begins}
@@ -21,6 +19,10 @@ use Rattle.listing.specs.declared.Stop.TheVariants.{NoRecord, Output, BadRecord}
 use Rattle.listing.specs.declared.State.{State}
 use Rattle.listing.specs.declared.Place.{Place}
 use Rattle.listing.proofs.Texts.{Fit, none, one, text_parts, Told, list_all_told}
+use Rattle.std.specs.Prelude.{Result, Ok, Err}
+use Rattle.sflow.specs.declared.Refused.{Refused}
+use Rattle.sflow.specs.Decode.{refused_at, as_read}
+use Rattle.reader.specs.declared.datagram.Head.{Head}
 
 -- ---- what a frame says of the octets
 
@@ -166,7 +168,7 @@ step_split : (d s : List ℕ) (p : Place) → Octets s → Split s p (list_step 
 unfolding list_step list_record behind_record
 step_split d s p o = on_frame_is (frame_of (drop p.at s)) refl
   where
-    on_head : (n : ℕ) (a : HeadRead) (out : ℕ) → frame_of (drop p.at s) ≡ Ok n → datagram_read (datagram_in (drop p.at s) n) ≡ a
+    on_head : (n : ℕ) (a : Result Head Refused) (out : ℕ) → frame_of (drop p.at s) ≡ Ok n → datagram_read (datagram_in (drop p.at s) n) ≡ a
         → Splits s p (behind p (4 + n) (Some (answer_to a out)))
     on_head n a out e q = by a q
       where
@@ -185,14 +187,14 @@ step_split d s p o = on_frame_is (frame_of (drop p.at s)) refl
             ∙ ap (λ (l : List ℕ). record_with (datagram_in (drop p.at s) n) ++ l) (drop-drop (4 + n) p.at s)
             ∙ sym (append_assoc (record_with (datagram_in (drop p.at s) n)) [] (drop (p.at + (4 + n)) s))
 
-        state : (a : HeadRead) → datagram_read (datagram_in (drop p.at s) n) ≡ a
+        state : (a : Result Head Refused) → datagram_read (datagram_in (drop p.at s) n) ≡ a
             → counted_as p.state (4 + n) a ≡ behind_all p.state (datagram_in (drop p.at s) n ∷ [])
         state a q = ap (λ (k : ℕ). counted_as p.state (4 + k) a) (sym front.0) ∙ ap (counted_as p.state (4 + length (datagram_in (drop p.at s) n))) (sym q)
 
-        by : (a : HeadRead) → datagram_read (datagram_in (drop p.at s) n) ≡ a → Splits s p (behind p (4 + n) (Some (answer_to a out)))
-        by (Found h) q = record { datagrams = datagram_in (drop p.at s) n ∷ []; fit = fit_is; records_are = records; state_is = state (Found h) q }
-        by (Refused why r) q =
-            record { datagrams = datagram_in (drop p.at s) n ∷ []; fit = fit_is; records_are = records; state_is = state (Refused why r) q }
+        by : (a : Result Head Refused) → datagram_read (datagram_in (drop p.at s) n) ≡ a → Splits s p (behind p (4 + n) (Some (answer_to a out)))
+        by (Ok h) q = record { datagrams = datagram_in (drop p.at s) n ∷ []; fit = fit_is; records_are = records; state_is = state (Ok h) q }
+        by  (Err e) q =
+            record { datagrams = datagram_in (drop p.at s) n ∷ []; fit = fit_is; records_are = records; state_is = state (Err e) q }
 
     lines : ℕ → List ℕ
     lines n = record_lines (more p.state.records 1) (datagram_in (drop p.at s) n)

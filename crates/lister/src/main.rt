@@ -13,7 +13,6 @@ use std::env::FillError;
 use std::io;
 use std::io::{ErrorKind, IsTerminal, Read, Write};
 use std::rt::Env;
-use xdr::Written;
 
 // Tells on standard error what failed, and why in the system's words, which stand before its number.
 fn fail<E: Eprint + AllocGlobal>(rt: &E, what: &str, error: io::Error) {
@@ -190,7 +189,7 @@ fn finish<E: Eprint + AllocGlobal, W: Write>(
     ensures { result ≡ true → Appends (W.contents writer.old) (W.contents writer.new)
         (end_text state rest.now) }
 {
-    let Written::WrittenTo(n) = listing::end_text(output, 0, state, rest) else {
+    let Some(n) = listing::end_text(output, 0, state, rest) else {
         return false;
     };
     flush(rt, writer, output, n)

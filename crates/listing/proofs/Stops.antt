@@ -2,8 +2,6 @@
 use Rattle.std.proofs.Common.{◌≡◌, ℕ, zero, suc, ◌+◌, ◌<◌, ◌≤◌, Bool, true, false, cond, leb, ◌⊎◌, ◌↔◌, List, length, drop, sym, refl, ap, ◌∙◌, subst, inl, inr, true≢false, arith, leb-false, Ok, Err, Some, None}
 use Rattle.reader.specs.Datagrams.{datagram_read}
 use Rattle.xdr.specs.Writes.{stored, Afterwards, afterwards}
-use Rattle.reader.specs.declared.datagram.HeadRead.{HeadRead}
-use Rattle.reader.specs.declared.datagram.HeadRead.TheVariants.{Found, Refused}
 use Rattle.record_lines.specs.Records.{record_lines, room_of, answer_to, list_record}
 use Rattle.listing.specs.Captures.{frame_of, datagram_in, more, behind, on_frame, on_listing, go_on, list_step, is_over, list_from, begins, list_all, NoRoomFor, StopsAt}
 use Rattle.listing.specs.Captures.{Frame}
@@ -13,6 +11,10 @@ use Rattle.listing.specs.declared.Stop.TheVariants.{GoesOn, NoRecord, Output, Ba
 use Rattle.listing.specs.declared.State.{State}
 use Rattle.listing.specs.declared.Place.{Place}
 use Rattle.listing.proofs.Captures.{frame_short}
+use Rattle.std.specs.Prelude.{Result, Ok, Err}
+use Rattle.sflow.specs.declared.Refused.{Refused}
+use Rattle.sflow.specs.Decode.{refused_at, as_read}
+use Rattle.reader.specs.declared.datagram.Head.{Head}
 
 -- ---- one reason, with what it says
 
@@ -62,9 +64,9 @@ step_because d s p = on_frame_is (frame_of (drop p.at s)) refl
     lines : ℕ → List ℕ
     lines n = record_lines (more p.state.records 1) (datagram_in (drop p.at s) n)
 
-    on_head : (n : ℕ) (a : HeadRead) → Step s p (afterwards (behind p (4 + n) (Some (answer_to a (p.out + length (lines n))))) (stored d p.out (lines n)))
-    on_head n (Found h) = inr (refl, omega arith)
-    on_head n (Refused why r) = inr (refl, omega arith)
+    on_head : (n : ℕ) (a : Result Head Refused) → Step s p (afterwards (behind p (4 + n) (Some (answer_to a (p.out + length (lines n))))) (stored d p.out (lines n)))
+    on_head n (Ok h) = inr (refl, omega arith)
+    on_head n (Err e) = inr (refl, omega arith)
 
     on_room : (n : ℕ) (b : Bool) → frame_of (drop p.at s) ≡ Ok n
         → leb (p.out + room_of (datagram_read (datagram_in (drop p.at s) n))) (length d) ≡ b

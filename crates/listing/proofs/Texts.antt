@@ -3,8 +3,6 @@ use Rattle.std.proofs.Common.{◌≡◌, ℕ, zero, suc, ◌+◌, ◌*◌, ◌/�
 use Rattle.reader.specs.Datagrams.{datagram_read}
 use Rattle.xdr.specs.Writes.{stored, Afterwards, afterwards}
 use Rattle.xdr.proofs.Writing.{stored_front, stored_back}
-use Rattle.reader.specs.declared.datagram.HeadRead.{HeadRead}
-use Rattle.reader.specs.declared.datagram.HeadRead.TheVariants.{Found, Refused}
 use Rattle.record_lines.specs.Records.{record_lines, room_of, answer_to, list_record}
 use Rattle.listing.specs.Captures.{frame_of, datagram_in, more, behind, stopped_as, on_frame, on_listing, go_on}
 use Rattle.listing.specs.Captures.{list_step, is_over, list_from, list_all, begins}
@@ -16,6 +14,10 @@ use Rattle.listing.specs.declared.Stop.TheVariants.{NoRecord, Output, BadRecord}
 use Rattle.listing.specs.declared.State.{State}
 use Rattle.listing.specs.declared.Place.{Place}
 use Rattle.record_lines.proofs.Digits.{stored_none}
+use Rattle.std.specs.Prelude.{Result, Ok, Err}
+use Rattle.sflow.specs.declared.Refused.{Refused}
+use Rattle.sflow.specs.Decode.{refused_at, as_read}
+use Rattle.reader.specs.declared.datagram.Head.{Head}
 
 -- ---- the text does not go by the number of turns, where they are enough
 
@@ -132,7 +134,7 @@ Told d s p (afterwards q e) = Tells d s p q e
 stays : (d s : List ℕ) (p : Place) (x : Stop) → Tells d s p (stopped_as p x) d
 stays d s p x = record { text = []; octets_are = sym (stored_none d p.out); out_is = omega arith; text_is = refl }
 
-text_behind : (t : State) (s : List ℕ) (at n : ℕ) (a : HeadRead) → frame_of (drop at s) ≡ Ok n → datagram_read (datagram_in (drop at s) n) ≡ a
+text_behind : (t : State) (s : List ℕ) (at n : ℕ) (a : Result Head Refused) → frame_of (drop at s) ≡ Ok n → datagram_read (datagram_in (drop at s) n) ≡ a
     → text_from t (drop at s)
     ≡ record_lines (more t.records 1) (datagram_in (drop at s) n) ++ text_from (counted_as t (4 + n) a) (drop (at + (4 + n)) s)
 unfolding record_text behind_record
@@ -145,12 +147,12 @@ step_told d s p = on_frame_is (frame_of (drop p.at s)) refl
     lines : ℕ → List ℕ
     lines n = record_lines (more p.state.records 1) (datagram_in (drop p.at s) n)
 
-    on_head : (n : ℕ) (a : HeadRead) → frame_of (drop p.at s) ≡ Ok n → datagram_read (datagram_in (drop p.at s) n) ≡ a
+    on_head : (n : ℕ) (a : Result Head Refused) → frame_of (drop p.at s) ≡ Ok n → datagram_read (datagram_in (drop p.at s) n) ≡ a
         → Tells d s p (behind p (4 + n) (Some (answer_to a (p.out + length (lines n))))) (stored d p.out (lines n))
-    on_head n (Found h) e q =
-        record { text = lines n; octets_are = refl; out_is = refl; text_is = text_behind p.state s p.at n (Found h) e q }
-    on_head n (Refused why r) e q =
-        record { text = lines n; octets_are = refl; out_is = refl; text_is = text_behind p.state s p.at n (Refused why r) e q }
+    on_head n (Ok h) e q =
+        record { text = lines n; octets_are = refl; out_is = refl; text_is = text_behind p.state s p.at n (Ok h) e q }
+    on_head n (Err err) e q =
+        record { text = lines n; octets_are = refl; out_is = refl; text_is = text_behind p.state s p.at n (Err err) e q }
 
     on_room : (n : ℕ) (b : Bool) → frame_of (drop p.at s) ≡ Ok n
         → Told d s p (on_listing p (4 + n)

@@ -1,23 +1,25 @@
 -- The whole text of a capture: a fold over its records with a state (document 01, "Listing a capture").
 use Rattle.std.specs.Prelude.{ℕ, zero, suc, ◌+◌, ◌/◌, ◌%◌, Bool, true, false, List, [], ◌∷◌, ◌++◌, length, drop, Ok, Err}
 use Rattle.reader.specs.Datagrams.{datagram_read}
-use Rattle.reader.specs.declared.datagram.HeadRead.{HeadRead}
-use Rattle.reader.specs.declared.datagram.HeadRead.TheVariants.{Found, Refused}
 use Rattle.record_lines.specs.Lines.{closing_lines}
 use Rattle.record_lines.specs.Records.{record_lines}
 use Rattle.listing.specs.Captures.{frame_of, datagram_in, more, count_accepted, count_refused}
 use Rattle.listing.specs.Captures.{Frame}
 use Rattle.listing.specs.declared.FrameFault.TheVariants.{Short, Wrong}
 use Rattle.listing.specs.declared.State.{State}
+use Rattle.std.specs.Prelude.{Result, Ok, Err}
+use Rattle.sflow.specs.declared.Refused.{Refused}
+use Rattle.sflow.specs.Decode.{refused_at, as_read}
+use Rattle.reader.specs.declared.datagram.Head.{Head}
 
 -- nothing listed so far
 abbrev pub nothing_listed : State
 nothing_listed = record { offset = 0; records = 0; refused = 0; samples = 0 }
 
 -- the state behind a record: its octets and itself counted, and its samples or the refusal
-abbrev pub counted_as : State → ℕ → HeadRead → State
-counted_as t taken (Found h) = count_accepted t taken h.samples.count
-counted_as t taken (Refused why p) = count_refused t taken
+abbrev pub counted_as : State → ℕ → Result Head Refused → State
+counted_as t taken (Ok h) = count_accepted t taken h.samples.count
+counted_as t taken (Err e) = count_refused t taken
 
 unfoldable pub behind_record : State → ℕ → List ℕ → State
 behind_record t n x = counted_as t (4 + n) (datagram_read x)

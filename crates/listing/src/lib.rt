@@ -8,7 +8,6 @@ ghost use Rattle.listing.specs.Captures.{frame_of, count_accepted, count_refused
 ghost use Rattle.listing.specs.Texts.{end_lines, end_text};
 
 use record_lines::Listed;
-use xdr::Written;
 
 // Why octets do not begin with a whole record.
 #[derive(Clone, Copy, PartialEq, Eq)]
@@ -176,14 +175,14 @@ pub fn list_records(d: &mut [u8], s: &[u8], begin: State) -> Place
 }
 
 // What follows the last record: where the capture goes wrong there, the line that says so, then the last line; 123 octets of room are asked for.
-pub fn end_lines(d: &mut [u8], at: usize, t: State, bad: bool) -> Written
+pub fn end_lines(d: &mut [u8], at: usize, t: State, bad: bool) -> Option<usize>
     ensures { afterwards result d.new ≡ write_line 123 d.old at (end_lines t bad) }
 {
     record_lines::closing_lines(d, at, bad, t.offset, t.records, t.refused, t.samples)
 }
 
 // The same where listing stops in front of these octets: none are left at the end of a capture; where some are, the capture goes wrong there.
-pub fn end_text(d: &mut [u8], at: usize, t: State, rest: &[u8]) -> Written
+pub fn end_text(d: &mut [u8], at: usize, t: State, rest: &[u8]) -> Option<usize>
     ensures { afterwards result d.new ≡ write_line 123 d.old at (end_text t rest.now) }
 {
     end_lines(d, at, t, 0 < rest.len())

@@ -5,13 +5,12 @@
 use std::io;
 use std::io::{Read, Write};
 use vector_io::RecordRead;
-use xdr::WordRead;
 
 // So many words from a place on.
 fn words<W: Write>(out: &mut W, s: &[u8], count: u64, first: u64) -> io::Result<()> {
     let mut at = first as usize;
     for _ in 0..count {
-        let WordRead::Word(v, next) = xdr::read_word(s, at) else {
+        let Ok((v, next)) = xdr::read_word(s, at) else {
             return Ok(());
         };
         vector_io::show(out, b"", &[v as u64])?;

@@ -6,9 +6,9 @@ use mathlib.Core.List.{List, [], ◌++◌}
 use lib.ListN.{length, length-append, take-append-drop}
 use borrow.Author.Tests.{le-leb, lt-leb}
 use Rattle.xdr.specs.Writes.{stored, afterwards}
-use Rattle.xdr.specs.declared.Written.TheVariants.{WrittenTo, Full}
 use Rattle.xdr.proofs.Writing.{stored_next}
 use Rattle.record_lines.specs.Lines.{Puts, write_line}
+use Rattle.std.specs.Prelude.{Some, None}
 
 put_none : (d : List ℕ) (at : ℕ) → Puts d at [] at d
 unfolding stored
@@ -35,10 +35,10 @@ puts_as h p = rw h p
 -- ---- a line where there may be no room
 
 pub line_fits : (room : ℕ) (d e : List ℕ) (at r : ℕ) (xs : List ℕ) → at + room ≤ length d → Puts d at xs r e
-    → afterwards (WrittenTo r) e ≡ write_line room d at xs
+    → afterwards (Some r) e ≡ write_line room d at xs
 unfolding write_line
 line_fits room d e at r xs h p = rw (le-leb _ _ h, p.next_is, p.octets_are)
 
-pub line_full : (room : ℕ) (d : List ℕ) (at : ℕ) (xs : List ℕ) → length d < at + room → afterwards Full d ≡ write_line room d at xs
+pub line_full : (room : ℕ) (d : List ℕ) (at : ℕ) (xs : List ℕ) → length d < at + room → afterwards None d ≡ write_line room d at xs
 unfolding write_line
 line_full room d at xs h = rw (lt-leb _ _ h)

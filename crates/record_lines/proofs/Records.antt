@@ -4,30 +4,28 @@ use native.Mathlib.Nat.{not-suc-le-zero}
 use native.Mathlib.Omega.{arith}
 use mathlib.Core.Path.{◌≡◌, refl, sym}
 use mathlib.Core.Bool.{Bool, true, false, cond}
-use mathlib.Core.List.{List, [], ◌∷◌, ◌++◌}
+use mathlib.Core.List.{List, [], ◌++◌}
 use Rattle.std.proofs.Common.{Some, None}
 use lib.ListN.{length}
 use lib.Dec.{ltb}
 use borrow.Author.Tests.{le-leb, lt-leb}
-use types.Run.{OneOf, miss}
-use denote.Enum.Declared.{tag_of}
 use Rattle.xdr.specs.Writes.{afterwards}
-use Rattle.reader.specs.contracts.datagram.Step.{the_type}
 use Rattle.sflow.specs.declared.Refusal.{Refusal}
 use Rattle.sflow.specs.declared.Refusal.TheVariants.{Trailing}
 use Rattle.sflow.specs.Refusals.{refusal_number}
-use Rattle.fields.specs.declared.runs.Passed.TheVariants.{Next}
 use Rattle.reader.specs.declared.sample.Sample.{Sample}
 use Rattle.reader.specs.declared.datagram.Cursor.{Cursor}
-use Rattle.reader.specs.declared.datagram.Step.{Step}
-use Rattle.reader.specs.declared.datagram.Step.TheVariants.{Found as FoundSample, End, Refused as Stopped}
-use Rattle.reader.specs.declared.datagram.HeadRead.{HeadRead}
-use Rattle.reader.specs.declared.datagram.HeadRead.TheVariants.{Found, Refused}
 use Rattle.reader.specs.Datagrams.{step_at, walk, walk_on, datagram_read}
 use Rattle.record_lines.specs.Lines.{Puts, sample_line, sample_lines, refused_line}
 use Rattle.record_lines.specs.Records.{lines_of, record_lines, room_of, answer_to, list_record}
 use Rattle.record_lines.specs.declared.Listed.TheVariants.{Refused as RefusedRecord}
 use Rattle.record_lines.proofs.Puts.{then, puts_none, puts_as}
+use Rattle.std.specs.Prelude.{Result, Ok, Err}
+use Rattle.sflow.specs.declared.Refused.{Refused}
+use Rattle.sflow.specs.Decode.{refused_at}
+use Rattle.sflow.specs.Decode.{refused_at}
+use Rattle.reader.specs.declared.datagram.Head.{Head}
+use Rattle.std.specs.Prelude.{Result, Ok, Err}
 
 -- ---- lines one behind the other
 
@@ -54,34 +52,36 @@ pub walked_end : (s : List ℕ) (left at : ℕ) → left ≤ 0 → walked s left
 unfolding walk step_at
 walked_end s zero at h = go (ltb at (length s))
   where
-    go : (b : Bool) → sample_lines (walk_on at (cond b (Stopped Trailing at) End) (λ next. record { met = []; ending = Next next })).met ≡ []
+    go : (b : Bool) → sample_lines (walk_on at (cond b (Err (refused_at Trailing at)) (Ok None)) (λ next. record { met = []; ending = Ok next })).met ≡ []
     go true = refl
     go false = refl
 walked_end s (suc left) at h = absurd (not-suc-le-zero h)
 
 pub walked_more : (s : List ℕ) (left at : ℕ) (x : Sample) (c : Cursor) → 0 < left
-    → step_at s (record { at = at; left = left }) ≡ FoundSample x c → walked s left at ≡ sample_line x ++ walked s (left - 1) c.at
+    → step_at s (record { at = at; left = left }) ≡ Ok (Some (x, c)) → walked s left at ≡ sample_line x ++ walked s (left - 1) c.at
 unfolding walk
 walked_more s zero at x c h e = absurd (not-suc-le-zero h)
 walked_more s (suc left) at x c h e = let f : suc left - 1 ≡ left = omega arith in rw (e, f)
 
--- a step that finds no sample
-pub walked_over : (s : List ℕ) (left at : ℕ) (x : Step) → 0 < left → x ≡ step_at s (record { at = at; left = left })
-    → OneOf (1 ∷ 2 ∷ []) (tag_of the_type x) → walked s left at ≡ []
+-- a step that finds the end, and one that is refused
+pub walked_over : (s : List ℕ) (left at : ℕ) → 0 < left → step_at s (record { at = at; left = left }) ≡ Ok None → walked s left at ≡ []
 unfolding walk
-walked_over s zero at x h e o = absurd (not-suc-le-zero h)
-walked_over s (suc left) at (FoundSample x c) h e o = absurd (miss (1 ∷ 2 ∷ []) 0 tt o)
-walked_over s (suc left) at End h e o = rw (sym e)
-walked_over s (suc left) at (Stopped why p) h e o = rw (sym e)
+walked_over s zero at h e = absurd (not-suc-le-zero h)
+walked_over s (suc left) at h e = rw e
+
+pub walked_stop : (s : List ℕ) (left at : ℕ) (r : Refused) → 0 < left → step_at s (record { at = at; left = left }) ≡ Err r → walked s left at ≡ []
+unfolding walk
+walked_stop s zero at r h e = absurd (not-suc-le-zero h)
+walked_stop s (suc left) at r h e = rw e
 
 -- ---- a record
 
-pub lists : (d e : List ℕ) (at n r : ℕ) (s : List ℕ) (a : HeadRead)
+pub lists : (d e : List ℕ) (at n r : ℕ) (s : List ℕ) (a : Result Head Refused)
     → datagram_read s ≡ a → Puts d at (lines_of n s a) r e → at + room_of a ≤ length d → afterwards (Some (answer_to a r)) e ≡ list_record d at n s
 unfolding list_record record_lines
 lists d e at n r s a q p h = rw (q, le-leb _ _ h, p.next_is, p.octets_are)
 
-pub no_room : (d : List ℕ) (at n : ℕ) (s : List ℕ) (a : HeadRead) → datagram_read s ≡ a → length d < at + room_of a → afterwards None d ≡ list_record d at n s
+pub no_room : (d : List ℕ) (at n : ℕ) (s : List ℕ) (a : Result Head Refused) → datagram_read s ≡ a → length d < at + room_of a → afterwards None d ≡ list_record d at n s
 unfolding list_record
 no_room d at n s a q h = rw (q, lt-leb _ _ h)
 
@@ -89,10 +89,10 @@ no_room d at n s a q h = rw (q, lt-leb _ _ h)
 pub no_room_at_all : (d : List ℕ) (at n : ℕ) (s : List ℕ) → length d < at + 164 → afterwards None d ≡ list_record d at n s
 no_room_at_all d at n s h = go (datagram_read s) refl
   where
-    go : (a : HeadRead) → datagram_read s ≡ a → afterwards None d ≡ list_record d at n s
-    go (Found g) q = no_room d at n s (Found g) q (omega arith)
-    go (Refused why p) q = no_room d at n s (Refused why p) q h
+    go : (a : Result Head Refused) → datagram_read s ≡ a → afterwards None d ≡ list_record d at n s
+    go (Ok g) q = no_room d at n s (Ok g) q (omega arith)
+    go  (Err e) q = no_room d at n s (Err e) q h
 
-pub lists_refused : (d e : List ℕ) (at n r : ℕ) (s : List ℕ) (why : Refusal) (p num : ℕ) → datagram_read s ≡ Refused why p → num ≡ refusal_number why
+pub lists_refused : (d e : List ℕ) (at n r : ℕ) (s : List ℕ) (why : Refusal) (p num : ℕ) → datagram_read s ≡ Err (refused_at why p) → num ≡ refusal_number why
     → Puts d at (refused_line n num p) r e → at + 164 ≤ length d → afterwards (Some (RefusedRecord r)) e ≡ list_record d at n s
-lists_refused d e at n r s why p num q m x h = lists d e at n r s (Refused why p) q (rw (sym m) x) h
+lists_refused d e at n r s why p num q m x h = lists d e at n r s (Err (refused_at why p)) q (rw (sym m) x) h

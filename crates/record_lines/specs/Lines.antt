@@ -1,14 +1,13 @@
 -- The lines of a capture's listing, as octets (ASCII): document 01, "Listing a capture".
 use Rattle.std.specs.Prelude.{ℕ, ◌+◌, ◌/◌, ◌%◌, ◌≡◌, Bool, true, false, cond, List, [], ◌∷◌, ◌++◌, length, leb, eqb}
-use Rattle.xdr.specs.declared.Written.{Written}
 use Rattle.xdr.specs.Writes.{stored, Afterwards, store_if}
-use Rattle.xdr.specs.declared.Written.TheVariants.{WrittenTo, Full}
 use Rattle.fields.specs.declared.address.Address.{Address}
 use Rattle.reader.specs.declared.sample.Sample.{Sample}
 use Rattle.reader.specs.declared.sample.SampleValues.{SampleValues}
 use Rattle.reader.specs.declared.sample.SampleValues.TheVariants.{Flow, Counters}
 use Rattle.reader.specs.declared.datagram.Head.{Head}
 use Rattle.record_lines.specs.Digits.{decimal, hexadecimal}
+use Rattle.std.specs.Prelude.{Option, Some, None}
 
 -- octets xs put at an offset of a buffer d make the buffer e and give the offset behind them
 pub record Puts (d : List ℕ) (at : ℕ) (xs : List ℕ) (next : ℕ) (e : List ℕ) : Type 0 where
@@ -16,8 +15,8 @@ pub record Puts (d : List ℕ) (at : ℕ) (xs : List ℕ) (next : ℕ) (e : List
   pub octets_are : e ≡ stored d at xs
 
 -- a line written at an offset where room octets are left, which is enough for it; else nothing is changed
-unfoldable pub write_line : ℕ → List ℕ → ℕ → List ℕ → Afterwards Written
-write_line room d at xs = store_if (leb (at + room) (length d)) (WrittenTo (at + length xs)) Full d at xs
+unfoldable pub write_line : ℕ → List ℕ → ℕ → List ℕ → Afterwards (Option ℕ)
+write_line room d at xs = store_if (leb (at + room) (length d)) (Some (at + length xs)) None d at xs
 
 -- ---- the words of the lines
 

@@ -25,9 +25,8 @@ ghost use Rattle.reader.specs.Datagrams.{walk};
 ghost use Rattle.record_lines.specs.Records.{list_record};
 
 use fields::address::Address;
-use reader::datagram::{Cursor, Head, HeadRead, Step};
+use reader::datagram::{Cursor, Head};
 use reader::sample::{Sample, SampleValues};
-use xdr::Written;
 
 // Puts octets at an offset and answers the offset behind them.
 // A buffer and an offset stay two parameters, here and below: a struct that holds both needs in each contract one clause more, that it holds the same lent buffer.
@@ -285,16 +284,16 @@ pub fn closing_lines(
     records: u64,
     refused: u64,
     samples: u64,
-) -> Written
+) -> Option<usize>
     ensures { afterwards result d.new ≡ write_line 123 d.old at (closing_lines bad offset records refused samples) }
 {
     if d.len() < at {
-        return Written::Full;
+        return None;
     }
     if d.len() - at < 123 {
-        return Written::Full;
+        return None;
     }
-    Written::WrittenTo(closing_text(d, at, bad, offset, records, refused, samples))
+    Some(closing_text(d, at, bad, offset, records, refused, samples))
 }
 
 // The lines of so many samples.
@@ -309,7 +308,10 @@ fn sample_lines(d: &mut [u8], at: usize, s: &[u8], first: usize, count: u32) -> 
             at: place,
             left: more + 1,
         };
-        let Step::Found(sample, behind) = reader::datagram::next_sample(s, cursor) else {
+        let Ok(step) = reader::datagram::next_sample(s, cursor) else {
+            return out;
+        };
+        let Some((sample, behind)) = step else {
             return out;
         };
         out = sample_line(d, out, sample);
@@ -338,11 +340,11 @@ pub fn list_record(d: &mut [u8], at: usize, index: u64, s: &[u8]) -> Option<List
         return None;
     }
     match reader::datagram::read(s) {
-        HeadRead::Refused(why, p) => {
-            let n = sflow::refusal_number(why);
-            Some(Listed::Refused(refused_line(d, at, index, n, p)))
+        Err(refused) => {
+            let n = sflow::refusal_number(refused.why);
+            Some(Listed::Refused(refused_line(d, at, index, n, refused.at)))
         }
-        HeadRead::Found(head) => {
+        Ok(head) => {
             let count = head.samples.count;
             if (d.len() - at - 164) / 136 < count as usize {
                 return None;

@@ -18,7 +18,6 @@ use Rattle.sflow.specs.Grammar.{Value, Fits, Each, Valid, octets_of_each, encode
 use Rattle.sflow.specs.Decode.{entries, decode, entries_in}
 use Rattle.sflow.specs.Datagram.{packet_data_type, extended_data_type, flow_words, sample_type}
 use Rattle.sflow.proofs.Exact.{entries_in_exactly}
-use Rattle.fields.specs.declared.runs.Passed.TheVariants.{Next, Refused}
 use Rattle.fields.specs.Parts.{as_passed}
 use Rattle.reader.specs.declared.sample.FlowWords.{FlowWords}
 use Rattle.form_writer.specs.declared.parts.WriteRefusal.{WriteRefusal}
@@ -27,6 +26,9 @@ use Rattle.form_writer.specs.Parts.{write_value, write_given, words_octets}
 use Rattle.form_writer.proofs.Allowances.{not_allowed, value_written}
 use Rattle.form_writer.proofs.Allowed.{entries_there, entries_elsewhere, entries_nowhere}
 use Rattle.sample_writer.specs.FlowValues.{flow_words_value, flow_value, flow_given, flow_octets, is_given}
+use Rattle.std.specs.Prelude.{Result, Ok, Err}
+use Rattle.sflow.specs.declared.Refused.{Refused}
+use Rattle.sflow.specs.Decode.{refused_at}
 
 -- ---- values
 
@@ -49,11 +51,11 @@ packet_given w x p es d e r given f = rw given f
 
 -- whether octets are exactly so many extended entries, by what reading them answers
 module _ (count : ℕ) (xs : List ℕ) where
-  pub entries_refused : (why : Refusal) (p : ℕ) → as_passed (entries (decode extended_data_type xs) count 0) ≡ Refused why p
+  pub entries_refused : (why : Refusal) (p : ℕ) → as_passed (entries (decode extended_data_type xs) count 0) ≡ Err (refused_at why p)
       → false ≡ is_given (entries_in extended_data_type count xs)
   entries_refused why p e = rw (entries_nowhere extended_data_type xs count why p e)
 
-  pub entries_tested : (next : ℕ) → as_passed (entries (decode extended_data_type xs) count 0) ≡ Next next
+  pub entries_tested : (next : ℕ) → as_passed (entries (decode extended_data_type xs) count 0) ≡ Ok next
       → eqb next (length xs) ≡ is_given (entries_in extended_data_type count xs)
   entries_tested next e = go (eqb next (length xs)) refl
     where

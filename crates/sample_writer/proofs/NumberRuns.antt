@@ -11,7 +11,6 @@ use Rattle.std.specs.Prelude.{Result, Ok, Err}
 use Rattle.xdr.specs.Numbers.{octets_of}
 use Rattle.xdr.specs.Items.{total_width}
 use Rattle.xdr.specs.Writes.{stored, write_at, afterwards}
-use Rattle.xdr.specs.declared.Written.{Written}
 use Rattle.xdr.proofs.Octets.{octets_length}
 use Rattle.xdr.proofs.Writing.{stored_next, stored_length, wrote_fits, wrote_length}
 use Rattle.sflow.specs.Grammar.{Fits, Each, each_fits, octets_of_each}
@@ -23,6 +22,7 @@ use Rattle.sample_writer.specs.CounterValues.{WordOrHyper}
 use Rattle.form_writer.proofs.WordRuns.{words_length, stored_nothing}
 use Rattle.form_writer.proofs.Stores.{alone_fits, alone_full}
 use Rattle.sample_writer.proofs.FitTests.{first_width, fits_told, fits_length}
+use Rattle.std.specs.Prelude.{Option, Some, None}
 
 -- Numbers stored up to the index i, and the offset p behind them: with those that are left, the buffer is as with all.
 pub record Putting (d₀ : List ℕ) (at : ℕ) (ws ns d : List ℕ) (i p : ℕ) : Type 0 where
@@ -64,7 +64,7 @@ put_next d₀ at ws ns d i p k h =
       octets_are = rw (add-one, drop-cons ws i 0 h, drop-cons ns i 0 j);
     }
 
-put_one : (d₀ : List ℕ) (at : ℕ) (ws ns d : List ℕ) (i p : ℕ) (r : Written) (e : List ℕ) → Putting d₀ at ws ns d i p → i < length ws
+put_one : (d₀ : List ℕ) (at : ℕ) (ws ns d : List ℕ) (i p : ℕ) (r : Option ℕ) (e : List ℕ) → Putting d₀ at ws ns d i p → i < length ws
     → afterwards r e ≡ write_at d p (octets_of (get_or ws i 0) (get_or ns i 0))
     → Putting d₀ at ws ns e (i + 1) (p + get_or ws i 0)
 put_one d₀ at ws ns d i p r e k h f =
@@ -89,7 +89,7 @@ put_one d₀ at ws ns d i p r e k h f =
     }
 
 -- one number more
-pub put_step : (d₀ : List ℕ) (at : ℕ) (ws ns d : List ℕ) (i p : ℕ) (r : Written) (e : List ℕ) → Putting d₀ at ws ns d i p → i < length ws
+pub put_step : (d₀ : List ℕ) (at : ℕ) (ws ns d : List ℕ) (i p : ℕ) (r : Option ℕ) (e : List ℕ) → Putting d₀ at ws ns d i p → i < length ws
     → (j w v : ℕ) → j ≡ i + 1 → w ≡ get_or ws i 0 → v ≡ get_or ns i 0
     → afterwards r e ≡ write_at d p (octets_of w v) → Putting d₀ at ws ns e j (p + w)
 put_step d₀ at ws ns d i p r e k h j w v a b c f = rw (a, b) (put_one d₀ at ws ns d i p r e k h (rw (b, c) at f))

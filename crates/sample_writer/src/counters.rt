@@ -12,7 +12,6 @@ ghost use Rattle.sample_writer.specs.CounterValues.{WordOrHyper, counters_value}
 
 use form_writer::parts;
 use form_writer::parts::WriteRefusal;
-use xdr::Written;
 
 // Whether a number fits a width, a word's or a hyper's.
 fn fits_width(width: u8, v: u64) -> bool
@@ -39,7 +38,7 @@ fn each_fits(widths: &[u8], numbers: &[u64]) -> bool
 }
 
 // A number that fits a width, a word's or a hyper's.
-fn write_number(d: &mut [u8], at: usize, width: u8, v: u64) -> Written
+fn write_number(d: &mut [u8], at: usize, width: u8, v: u64) -> Option<usize>
     requires { WordOrHyper width × (v < 256 ^ width) }
     ensures { afterwards result d.new ≡ write_at d.old at (octets_of width v) }
 {

@@ -8,7 +8,6 @@ ghost use Rattle.form_writer.specs.Parts.{write_value, write_given, words_octets
 ghost use Rattle.form_writer.specs.Values.{header_value, ipv4_value, ipv6_value};
 ghost use Rattle.sample_writer.specs.FlowValues.{flow_given, flow_octets, is_given};
 
-use fields::runs::Passed;
 use form_writer::parts::{Part, WriteRefusal};
 use form_writer::{packet, parts};
 use packet_data::{SampledIpv4, SampledIpv6};
@@ -18,7 +17,7 @@ use reader::sample::FlowWords;
 fn are_entries(count: u32, extended: &[u8]) -> bool
     ensures { result ≡ is_given (entries_in extended_data_type count extended.now) }
 {
-    let Passed::Next(last) = extended_data::pass_extended(extended, 0, count) else {
+    let Ok(last) = extended_data::pass_extended(extended, 0, count) else {
         return false;
     };
     last == extended.len()
@@ -126,7 +125,7 @@ pub fn write_flow(
     ensures { afterwards result d.new
         ≡ write_given sample_type (flow_given words (value_in packet_data_type packet.now) (entries_in extended_data_type count extended.now)) d.old }
 {
-    let Passed::Next(end) = packet_data::pass_packet(packet, 0) else {
+    let Ok(end) = packet_data::pass_packet(packet, 0) else {
         return Err(WriteRefusal::BadValue);
     };
     if end != packet.len() {
@@ -139,7 +138,7 @@ pub fn write_flow(
 pub fn write_sample(d: &mut [u8], sample: &[u8]) -> Result<usize, WriteRefusal>
     ensures { afterwards result d.new ≡ write_given sample_type (value_in sample_type sample.now) d.old }
 {
-    let Passed::Next(end) = reader::sample::pass_sample(sample, 0) else {
+    let Ok(end) = reader::sample::pass_sample(sample, 0) else {
         return Err(WriteRefusal::BadValue);
     };
     if end != sample.len() {

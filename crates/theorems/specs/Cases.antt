@@ -6,8 +6,6 @@ use Rattle.form_writer.specs.declared.parts.WriteRefusal.{WriteRefusal}
 use Rattle.xdr.specs.Writes.{Afterwards, afterwards}
 use Rattle.sflow.specs.Refusals.{refusal_number}
 use Rattle.reader.specs.declared.datagram.Head.{Head}
-use Rattle.reader.specs.declared.datagram.HeadRead.{HeadRead}
-use Rattle.reader.specs.declared.datagram.HeadRead.TheVariants.{Found, Refused}
 use Rattle.reader.specs.Datagrams.{datagram_read}
 use Rattle.form_writer.specs.Parts.{write_number}
 use Rattle.sample_writer.specs.CounterValues.{counters_value}
@@ -18,6 +16,8 @@ use Rattle.ledger.specs.declared.FlowEntry.{FlowEntry}
 use Rattle.ledger.specs.declared.Row.{Row}
 use Rattle.ledger.specs.Ledger.{TableEntered, free_row, entered}
 use Rattle.theorems.specs.Inputs.{
+use Rattle.std.specs.Prelude.{Result, Ok, Err}
+use Rattle.sflow.specs.declared.Refused.{Refused}
   no_samples,
   one_sample,
   counter_sample,
@@ -45,7 +45,7 @@ pub data Case : Type 0 where
 
 -- ---- 1 to 6 and 8: the reader
 
-abbrev Refuses : HeadRead → ℕ → ℕ → Type 0
+abbrev Refuses : Result Head Refused → ℕ → ℕ → Type 0
 Refuses (Found h) number place = ⊥
 Refuses (Refused why p) number place = (refusal_number why ≡ number) × (p ≡ place)
 

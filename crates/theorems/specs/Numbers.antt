@@ -3,7 +3,6 @@
 use Rattle.std.specs.Prelude.{ℕ, ◌≤◌, ◌≡◌, ◌↔◌, Bool, List, [], ◌∷◌, length, drop, Result}
 use Rattle.std.proofs.Math.Option.{Option}
 use Rattle.xdr.specs.Writes.{afterwards}
-use Rattle.xdr.specs.declared.Written.{Written}
 use Rattle.sflow.specs.declared.Refusal.{Refusal}
 use Rattle.sflow.specs.Refusals.{refusal_number}
 use Rattle.sflow.specs.Grammar.{Form, Value}
@@ -15,7 +14,6 @@ use Rattle.extended_data.specs.declared.ExtendedRead.{ExtendedRead}
 use Rattle.extended_data.specs.declared.SegmentRead.{SegmentRead}
 use Rattle.extended_data.specs.ExtendedData.{segment_of, as_segment, extended_of, as_extended}
 use Rattle.reader.specs.declared.sample.SampleRead.{SampleRead}
-use Rattle.reader.specs.declared.datagram.HeadRead.{HeadRead}
 use Rattle.reader.specs.declared.datagram.Cursor.{Cursor}
 use Rattle.reader.specs.declared.datagram.Step.{Step}
 use Rattle.reader.specs.Samples.{sample_of, as_sample}
@@ -42,6 +40,10 @@ use Rattle.ledger_calls.specs.EntryNumbers.{LentRowTold, EntryTold}
 use Rattle.rule_calls.specs.RuleSets.{check_report, engine_report, CheckTold, RunTold}
 use Rattle.line_calls.specs.ListedLines.{frame_report, written_report}
 use Rattle.line_calls.specs.LineNumbers.{FrameTold, RecordsTold, LinesTold}
+use Rattle.std.specs.Prelude.{Option, Some, None}
+use Rattle.reader.specs.declared.datagram.Head.{Head}
+use Rattle.std.specs.Prelude.{Result, Ok, Err}
+use Rattle.sflow.specs.declared.Refused.{Refused}
 
 -- Each field says of an entry: whatever answer its contract allows is told so.
 pub record InNumbers : Type 1 where
@@ -51,8 +53,8 @@ pub record InNumbers : Type 1 where
   pub refused_exactly : {A : Type 0} (numbers : A → ℕ → List ℕ) (n p : ℕ) → 1 ≤ n → (d : Decoded A)
       → (decoded_report numbers d ≡ report n (p ∷ [])) ↔ ((why : Refusal) × ((refusal_number why ≡ n) × (d ≡ refused why p)))
   -- a datagram; its head alone
-  pub read : (s : List ℕ) (r : HeadRead) → r ≡ datagram_read s → head_report r ≡ decoded_report (λ h next. head_numbers h) (mapped datagram_of (read_datagram s))
-  pub read_head : (s : List ℕ) (r : HeadRead) → r ≡ as_head (head_at s) → head_report r ≡ decoded_report (λ h next. head_numbers h) (head_at s)
+  pub read : (s : List ℕ) (r : Result Head Refused) → r ≡ datagram_read s → head_report r ≡ decoded_report (λ h next. head_numbers h) (mapped datagram_of (read_datagram s))
+  pub read_head : (s : List ℕ) (r : Result Head Refused) → r ≡ as_head (head_at s) → head_report r ≡ decoded_report (λ h next. head_numbers h) (head_at s)
   -- a step of the walk over its samples; a sample; an extended entry; a path segment
   pub next_sample : (s : List ℕ) (c : Cursor) (r : Step) → r ≡ step_at s c → StepTold s c r
   pub sample : (s : List ℕ) (at : ℕ) (r : SampleRead) → r ≡ as_sample at (mapped (sample_of at) (decode sample_type s at)) → sample_report s r ≡ sample_found s at
@@ -75,6 +77,6 @@ pub record InNumbers : Type 1 where
   pub run : (s x : List ℕ) (r : EngineAnswer) → r ≡ engine_of s x → RunTold s x (engine_report r)
   -- ---- listing: why it stopped; what follows the last record; what a part of a capture begins with
   pub records : (d s : List ℕ) (t : State) (r : Place) (e : List ℕ) → afterwards r e ≡ list_all d s t → RecordsTold e s r
-  pub end_lines_told : (d : List ℕ) (at : ℕ) (t : State) (bad : Bool) (r : Written) (e : List ℕ) → afterwards r e ≡ write_line 123 d at (end_lines t bad)
+  pub end_lines_told : (d : List ℕ) (at : ℕ) (t : State) (bad : Bool) (r : Option ℕ) (e : List ℕ) → afterwards r e ≡ write_line 123 d at (end_lines t bad)
       → LinesTold 123 d at (end_lines t bad) (written_report r) e
   pub frame : (s : List ℕ) (at : ℕ) (r : Frame) → r ≡ frame_of (drop at s) → FrameTold (drop at s) (frame_report r)

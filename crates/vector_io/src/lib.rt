@@ -9,7 +9,6 @@ ghost use Rattle.vector_io.specs.Texts.{spaced, line_of, refusal_line};
 
 use std::io;
 use std::io::{Read, Write};
-use xdr::WordRead;
 
 // Room for a record: no datagram, sample or rule set of the vectors is longer.
 pub fn room() -> [u8; 131072]
@@ -34,7 +33,7 @@ pub fn read_record<R: Read>(input: &mut R, buffer: &mut [u8]) -> RecordRead
     if input.read_exact(&mut prefix).is_err() {
         return RecordRead::NoRecord;
     }
-    let WordRead::Word(length, _) = xdr::read_word(&prefix, 0) else {
+    let Ok((length, _)) = xdr::read_word(&prefix, 0) else {
         return RecordRead::NoRecord;
     };
     let n = length as usize;

@@ -13,8 +13,9 @@ ghost use Rattle.numbers.specs.Reports.{handed};
 ghost use Rattle.numbers.specs.Addresses.{address_with};
 ghost use Rattle.write_reports.specs.WriteReports.{hand_over};
 
-use fields::address::{Address, Quad};
+use fields::address::Address;
 use write_reports::report;
+use xdr::Quad;
 
 // Appends a sample, given as octets, to the datagram that the buffer's first length octets are, within a limit. Answers 0, and the array takes the
 // datagram's new length; or, tested in this order, 21 where the limit is outside 36 to 65,507 or above the buffer's length, 23 where the datagram so far is not

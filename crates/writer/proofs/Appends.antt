@@ -11,7 +11,6 @@ use borrow.Author.Tests.{le-leb, lt-leb, leb-true, leb-false}
 use Rattle.std.specs.Prelude.{Result, Ok, Err}
 use Rattle.xdr.specs.Numbers.{Octets, octets_of}
 use Rattle.xdr.specs.Writes.{stored, write_at, afterwards}
-use Rattle.xdr.specs.declared.Written.{Written}
 use Rattle.xdr.proofs.Octets.{octets_length}
 use Rattle.xdr.proofs.Writing.{stored_part, stored_length, wrote_fits}
 use Rattle.sflow.specs.Grammar.{Value, Valid, octets_of_each, encode}
@@ -26,6 +25,7 @@ use Rattle.form_writer.specs.declared.parts.WriteRefusal.TheVariants.{BadLimit, 
 use Rattle.form_writer.specs.Parts.{write_alone, write_value}
 use Rattle.writer.specs.Datagrams.{limit_allowed, count_at, ready_so_far, checked_at, appended_when, appended_octets}
 use Rattle.writer.proofs.Limits.{limit_allowed_is}
+use Rattle.std.specs.Prelude.{Option, Some, None}
 
 -- ---- the count word lies within the datagram so far
 
@@ -151,7 +151,7 @@ module _ (limit size at : ℕ) (d : List ℕ) (known : SoFar limit size at d) (a
         go f (written t h b s) = let z : ◌≡◌ {A = ℕ} 0 1 = cc in absurd (omega arith)
 
     -- the count is raised where it wrote
-    pub sample_appended : (n : ℕ) (w : Written) (f : List ℕ) → answer ≡ Ok n → afterwards w f ≡ write_at (put_mid size (limit - size) d e) at (octets_of 4 count)
+    pub sample_appended : (n : ℕ) (w : Option ℕ) (f : List ℕ) → answer ≡ Ok n → afterwards w f ≡ write_at (put_mid size (limit - size) d e) at (octets_of 4 count)
         → afterwards (Ok (size + n)) f ≡ appended_octets allowed xs limit size d
     unfolding appended_octets
     sample_appended n w f a p = go (put_mid size (limit - size) d e) p (room_written q)

@@ -16,10 +16,12 @@ use Rattle.sflow.specs.Datagram.{int, address, sample_type, sample_datagram, age
 use Rattle.sflow.specs.Reading.{longest, read_datagram}
 use Rattle.sflow.proofs.Theorems.{accepted_to_end, accepted_exactly}
 use Rattle.reader.specs.declared.datagram.Head.{Head}
-use Rattle.reader.specs.declared.datagram.HeadRead.TheVariants.{Found as FoundHead, Refused as RefusedHead}
 use Rattle.reader.specs.Datagrams.{datagram_of, as_head}
 use Rattle.form_writer.specs.declared.parts.WriteRefusal.TheVariants.{BadLimit, BadDatagram}
 use Rattle.writer.specs.Datagrams.{limit_allowed, count_at, ready_so_far, checked_at}
+use Rattle.std.specs.Prelude.{Result, Ok, Err}
+use Rattle.sflow.specs.declared.Refused.{Refused}
+use Rattle.sflow.specs.Decode.{refused_at, as_read}
 
 -- ---- the samples of an accepted datagram are few
 
@@ -61,20 +63,20 @@ pub record HeadOf (s : List ℕ) (h : Head) : Type 0 where
   pub read : read_datagram s ≡ found value end
   pub seen : datagram_of value ≡ h
 
-pub head_of : (s : List ℕ) (h : Head) → as_head (mapped datagram_of (read_datagram s)) ≡ FoundHead h → HeadOf s h
+pub head_of : (s : List ℕ) (h : Head) → as_head (mapped datagram_of (read_datagram s)) ≡ Ok h → HeadOf s h
 head_of s h e = go (read_datagram s) refl e
   where
-    go : (d : Decoded (Value sample_datagram)) → read_datagram s ≡ d → as_head (mapped datagram_of d) ≡ FoundHead h → HeadOf s h
+    go : (d : Decoded (Value sample_datagram)) → read_datagram s ≡ d → as_head (mapped datagram_of d) ≡ Ok h → HeadOf s h
     go (found v end) f g = record { value = v; end = end; read = f; seen = cc }
     go (refused why p) f g = let z : ◌≡◌ {A = ℕ} 0 1 = cc in absurd (omega arith)
 
-pub head_at : (s : List ℕ) (h : Head) → as_head (mapped datagram_of (read_datagram s)) ≡ FoundHead h → 4 ≤ h.samples.at
+pub head_at : (s : List ℕ) (h : Head) → as_head (mapped datagram_of (read_datagram s)) ≡ Ok h → 4 ≤ h.samples.at
 head_at s h e =
     let r = head_of s h e in
     let m : 16 + length (encode address (agent_address r.value)) ≡ h.samples.at = ap (λ (x : Head). x.samples.at) r.seen in
     omega arith
 
-pub head_few : (s : List ℕ) → Octets s → (h : Head) → as_head (mapped datagram_of (read_datagram s)) ≡ FoundHead h → h.samples.count * 4 ≤ longest
+pub head_few : (s : List ℕ) → Octets s → (h : Head) → as_head (mapped datagram_of (read_datagram s)) ≡ Ok h → h.samples.count * 4 ≤ longest
 head_few s o h e =
     let r = head_of s h e in
     let m : length (samples r.value) ≡ h.samples.count = ap (λ (x : Head). x.samples.count) r.seen in
@@ -93,16 +95,16 @@ module _ (limit size : ℕ) (d : List ℕ) where
     so_far_long h = rw (e, lt-leb size limit h)
 
     module _ (h : size ≤ limit) where
-      pub so_far_refused : (why : Refusal) (p : ℕ) → as_head (mapped datagram_of (read_datagram (take size d))) ≡ RefusedHead why p
+      pub so_far_refused : (why : Refusal) (p : ℕ) → as_head (mapped datagram_of (read_datagram (take size d))) ≡ Err (refused_at why p)
           → Err BadDatagram ≡ checked_at limit size d
       unfolding checked_at
       so_far_refused why p f = rw (e, le-leb size limit h) (go (read_datagram (take size d)) f)
         where
-          go : (r : Decoded (Value sample_datagram)) → as_head (mapped datagram_of r) ≡ RefusedHead why p → Err BadDatagram ≡ ready_so_far r
+          go : (r : Decoded (Value sample_datagram)) → as_head (mapped datagram_of r) ≡ Err (refused_at why p) → Err BadDatagram ≡ ready_so_far r
           go (found v end) g = let z : ◌≡◌ {A = ℕ} 0 1 = cc in absurd (omega arith)
           go (refused w q) g = refl
 
-      pub so_far_found : (x : Head) → as_head (mapped datagram_of (read_datagram (take size d))) ≡ FoundHead x
+      pub so_far_found : (x : Head) → as_head (mapped datagram_of (read_datagram (take size d))) ≡ Ok x
           → Ok (x.samples.at - 4, x.samples.count + 1) ≡ checked_at limit size d
       unfolding checked_at
       so_far_found x f =

@@ -16,7 +16,6 @@ use fields::address::Address;
 use form_writer::parts;
 use form_writer::parts::WriteRefusal;
 use packet_data::{SampledIpv4, SampledIpv6};
-use reader::datagram::HeadRead;
 use reader::sample::FlowWords;
 use sample_writer::{counters, sample};
 
@@ -58,7 +57,7 @@ fn check_so_far(d: &[u8], limit: usize, length: usize) -> Result<(usize, u32), W
     if limit < length {
         return Err(WriteRefusal::BadDatagram);
     }
-    let HeadRead::Found(head) = reader::datagram::read(&d[..length]) else {
+    let Ok(head) = reader::datagram::read(&d[..length]) else {
         return Err(WriteRefusal::BadDatagram);
     };
     let samples = head.samples;

@@ -3,20 +3,21 @@
 #![tactic(auto)]
 
 use extended_data::{Router, Switch};
-use fields::address::{Address, Quad};
-use fields::runs::Passed;
+use fields::address::Address;
+use sflow::Refused;
 use form_writer::parts::WriteRefusal;
 use packet_data::{SampledIpv4, SampledIpv6};
 use reader::sample::FlowWords;
 use std::io;
 use std::io::Write;
+use xdr::Quad;
 
 // Whether a buffer begins with the wanted octets, and so many were written and read.
-fn agrees(d: &[u8], answer: Result<usize, WriteRefusal>, passed: Passed, want: &[u8]) -> bool {
+fn agrees(d: &[u8], answer: Result<usize, WriteRefusal>, passed: Result<usize, Refused>, want: &[u8]) -> bool {
     let Ok(length) = answer else {
         return false;
     };
-    let Passed::Next(end) = passed else {
+    let Ok(end) = passed else {
         return false;
     };
     end == length && check::same(vector_io::part(d, 0, length), want)
@@ -27,7 +28,7 @@ fn report<W: Write>(
     name: &[u8],
     d: &[u8],
     answer: Result<usize, WriteRefusal>,
-    passed: Passed,
+    passed: Result<usize, Refused>,
     want: &[u8],
 ) -> io::Result<()> {
     vector_io::show(out, name, &[])?;

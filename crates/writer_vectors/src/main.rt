@@ -7,8 +7,8 @@ ghost use Rattle.std.specs.Prelude.{◌≡◌, ◌+◌, ◌≤◌, length};
 
 use fields::words::Entries;
 use packet_data::{PacketData, SampledHeader};
-use reader::datagram::{Head, HeadRead};
-use reader::sample::{CountersSample, FlowSample, Sample, SampleRead, SampleValues};
+use reader::datagram::Head;
+use reader::sample::{CountersSample, FlowSample, Sample, SampleValues};
 use std::io;
 use std::io::{Read, Write};
 use vector_io::RecordRead;
@@ -154,7 +154,7 @@ fn append_samples(
     let mut length = start;
     let mut at = list.at;
     for _ in 0..list.count {
-        let SampleRead::Found(x, end) = reader::sample::read_sample(s, at) else {
+        let Ok((x, end)) = reader::sample::read_sample(s, at) else {
             return None;
         };
         length = append(out, length, s, x, end, by_values)?;
@@ -191,7 +191,7 @@ fn again(s: &[u8], head: Head, by_values: bool) -> bool {
 fn datagram(s: &[u8]) -> Outcome
     ensures { result.equal + result.different ≤ 1 }
 {
-    let HeadRead::Found(head) = reader::datagram::read(s) else {
+    let Ok(head) = reader::datagram::read(s) else {
         return Outcome {
             ended: false,
             equal: 0,

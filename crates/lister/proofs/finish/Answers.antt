@@ -6,10 +6,10 @@ use Rattle.lister.proofs.finish.Goals as goal
 
 pub flush-requires : goal.flush-requires
 flush-requires g c =
-    let h = line_inside c.args.output.now c.end_text.new.d _ _ _ (ap (λ x. afterwards x c.end_text.new.d) (sym c.in-WrittenTo.is) ∙ c.end_text.ensures) (search rules) in
+    let h = line_inside c.args.output.now c.end_text.new.d _ _ _ (ap (λ x. afterwards x c.end_text.new.d) (sym c.in-Some.is) ∙ c.end_text.ensures) (search rules) in
     omega arith
 
 pub returns : goal.returns
 returns g c = λ done.
-    let h = line_front c.args.output.now c.end_text.new.d _ _ _ (ap (λ x. afterwards x c.end_text.new.d) (sym c.in-WrittenTo.is) ∙ c.end_text.ensures) in
+    let h = line_front c.args.output.now c.end_text.new.d _ _ _ (ap (λ x. afterwards x c.end_text.new.d) (sym c.in-Some.is) ∙ c.end_text.ensures) in
     subst (Appends _ _) h (c.flush.ensures done)

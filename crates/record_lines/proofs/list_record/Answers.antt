@@ -11,14 +11,14 @@ pub returns-then-d-at-lt164 : goal.returns-then-d-at-lt164
 returns-then-d-at-lt164 c = no_room_at_all _ _ _ _ (omega arith)
 
 pub returns-then-d-at-2 : goal.returns-then-d-at-2
-returns-then-d-at-2 c = no_room _ _ _ _ _ (sym c.read.ensures ∙ c.in-Found.is) (omega arith)
+returns-then-d-at-2 c = no_room _ _ _ _ _ (sym c.read.ensures ∙ c.in-Ok.is) (omega arith)
 
-pub returns-in-Refused : goal.returns-in-Refused
-returns-in-Refused c =
-    lists_refused _ _ _ _ _ _ _ _ _ (sym c.read.ensures ∙ c.in-Refused.is) c.refusal_number-n.ensures
+pub returns-in-Err : goal.returns-in-Err
+returns-in-Err c =
+    lists_refused _ _ _ _ _ _ _ _ _ (sym c.read.ensures ∙ c.in-Err.is) c.refusal_number-n.ensures
     c.refused_line.ensures.0 (omega arith)
 
 pub returns-else-d-at-2 : goal.returns-else-d-at-2
 returns-else-d-at-2 c =
-    lists _ _ _ _ _ _ _ (sym c.read.ensures ∙ c.in-Found.is)
+    lists _ _ _ _ _ _ _ (sym c.read.ensures ∙ c.in-Ok.is)
     (then c.agent_line-next.ensures.0 c.sample_lines.ensures.0 (omega arith)) (omega arith)
