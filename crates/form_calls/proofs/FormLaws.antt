@@ -20,7 +20,7 @@ use Rattle.write_reports.specs.WriteReports.{hand_over}
 use Rattle.packet_data.specs.declared.SampledIpv4.{SampledIpv4}
 use Rattle.packet_data.specs.declared.SampledIpv6.{SampledIpv6}
 use Rattle.reader.specs.declared.sample.FlowWords.{FlowWords}
-use Rattle.fields.specs.declared.address.Quad.{Quad}
+use Rattle.xdr.specs.declared.Quad.{Quad}
 use Rattle.xdr.specs.Items.{word_at}
 use Rattle.sflow.specs.Grammar.{Value}
 use Rattle.sflow.specs.Decode.{decode, value_in, entries_in}

@@ -5,7 +5,7 @@ use Rattle.xdr.specs.Writes.{Afterwards, afterwards}
 use Rattle.sflow.specs.Grammar.{Value}
 use Rattle.sflow.specs.Decode.{value_in, entries_in}
 use Rattle.sflow.specs.Datagram.{packet_data_type, as_path_type, extended_data_type, sample_type}
-use Rattle.fields.specs.declared.address.Quad.{Quad}
+use Rattle.xdr.specs.declared.Quad.{Quad}
 use Rattle.fields.specs.Parts.{item}
 use Rattle.packet_data.specs.declared.SampledIpv4.{SampledIpv4}
 use Rattle.packet_data.specs.declared.SampledIpv6.{SampledIpv6}

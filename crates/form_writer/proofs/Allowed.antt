@@ -10,8 +10,7 @@ use Rattle.sflow.specs.Grammar.{Form, Value}
 use Rattle.sflow.specs.Decode.{Decoded, found, entries, decode, ending_at, value_in, entries_in}
 use Rattle.fields.specs.Parts.{as_passed}
 use Rattle.fields.proofs.Passing.{passed_next, passed_refused}
-use Rattle.std.specs.Prelude.{Result, Ok, Err}
-use Rattle.sflow.specs.declared.Refused.{Refused}
+use Rattle.std.specs.Prelude.{Ok, Err}
 use Rattle.sflow.specs.Decode.{refused_at}
 
 -- reading ends there, ends elsewhere, or is refused

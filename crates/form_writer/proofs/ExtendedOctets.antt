@@ -7,7 +7,7 @@ use Rattle.xdr.specs.Writes.{padded_octets}
 use Rattle.sflow.specs.Grammar.{octets_of_each, encode}
 use Rattle.sflow.specs.Datagram.{extended_data_type}
 use Rattle.form_writer.specs.Parts.{words_octets}
-use Rattle.fields.specs.declared.address.Quad.{Quad}
+use Rattle.xdr.specs.declared.Quad.{Quad}
 use Rattle.extended_data.specs.declared.Router.{Router}
 use Rattle.form_writer.specs.Values.{router_value, user_value, url_value}
 use Rattle.xdr.proofs.Octets.{quad_octets}

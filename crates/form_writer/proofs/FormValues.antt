@@ -14,7 +14,7 @@ use Rattle.xdr.specs.Numbers.{Octets, quad_number}
 use Rattle.xdr.proofs.Tests.{is_true}
 use Rattle.sflow.specs.Grammar.{Fits, Each, Valid, listed, chosen, one_to}
 use Rattle.sflow.specs.Datagram.{word, address_types, packet_data_type, as_path_type, extended_data_type}
-use Rattle.fields.specs.declared.address.Quad.{Quad}
+use Rattle.xdr.specs.declared.Quad.{Quad}
 use Rattle.fields.specs.declared.address.Address.{Address}
 use Rattle.extended_data.specs.declared.Router.{Router}
 use Rattle.form_writer.specs.Values.{router_value, words_value, quad_value, address_value, header_value, segment_value, user_value, url_value}

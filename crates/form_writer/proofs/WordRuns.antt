@@ -11,7 +11,7 @@ use Rattle.xdr.specs.Writes.{stored, write_at, afterwards}
 use Rattle.xdr.proofs.Octets.{octets_length}
 use Rattle.xdr.proofs.Writing.{stored_next, stored_length, wrote_fits}
 use Rattle.form_writer.specs.Parts.{words_octets}
-use Rattle.std.specs.Prelude.{Option, Some, None}
+use Rattle.std.specs.Prelude.{Option}
 
 pub words_length : (ws : List ℕ) → length (words_octets ws) ≡ length ws * 4
 unfolding words_octets flat_map

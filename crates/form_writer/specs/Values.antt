@@ -6,7 +6,7 @@ use Rattle.xdr.specs.Numbers.{quad_number}
 use Rattle.sflow.specs.Grammar.{list, Value}
 use Rattle.sflow.specs.Decode.{entries_in}
 use Rattle.sflow.specs.Datagram.{word, address, packet_data_type, as_path_type, extended_data_type}
-use Rattle.fields.specs.declared.address.Quad.{Quad}
+use Rattle.xdr.specs.declared.Quad.{Quad}
 use Rattle.fields.specs.declared.address.Address.{Address}
 use Rattle.packet_data.specs.declared.SampledIpv4.{SampledIpv4}
 use Rattle.packet_data.specs.declared.SampledIpv6.{SampledIpv6}

@@ -31,7 +31,7 @@ use Rattle.listing.proofs.Stops.{list_stops}
 use Rattle.listing.proofs.Texts.{Told, list_all_told}
 use Rattle.lister.specs.declared.Progress.{Progress}
 use Rattle.lister.specs.Held.{is_full, is_bad, Listed}
-use Rattle.std.specs.Prelude.{Option, Some, None}
+use Rattle.std.specs.Prelude.{Some, None}
 
 -- ---- octets listed from an offset on
 

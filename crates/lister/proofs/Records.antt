@@ -21,7 +21,6 @@ use Rattle.listing.specs.declared.Place.{Place}
 use Rattle.listing.proofs.Texts.{Fit, none, one, text_parts, Told, list_all_told}
 use Rattle.std.specs.Prelude.{Result, Ok, Err}
 use Rattle.sflow.specs.declared.Refused.{Refused}
-use Rattle.sflow.specs.Decode.{refused_at, as_read}
 use Rattle.reader.specs.declared.datagram.Head.{Head}
 
 -- ---- what a frame says of the octets

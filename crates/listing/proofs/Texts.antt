@@ -16,7 +16,6 @@ use Rattle.listing.specs.declared.Place.{Place}
 use Rattle.record_lines.proofs.Digits.{stored_none}
 use Rattle.std.specs.Prelude.{Result, Ok, Err}
 use Rattle.sflow.specs.declared.Refused.{Refused}
-use Rattle.sflow.specs.Decode.{refused_at, as_read}
 use Rattle.reader.specs.declared.datagram.Head.{Head}
 
 -- ---- the text does not go by the number of turns, where they are enough

@@ -9,7 +9,6 @@ use Rattle.listing.specs.declared.FrameFault.TheVariants.{Short, Wrong}
 use Rattle.listing.specs.declared.State.{State}
 use Rattle.std.specs.Prelude.{Result, Ok, Err}
 use Rattle.sflow.specs.declared.Refused.{Refused}
-use Rattle.sflow.specs.Decode.{refused_at, as_read}
 use Rattle.reader.specs.declared.datagram.Head.{Head}
 
 -- nothing listed so far

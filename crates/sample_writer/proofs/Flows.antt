@@ -27,7 +27,6 @@ use Rattle.form_writer.proofs.Allowances.{not_allowed, value_written}
 use Rattle.form_writer.proofs.Allowed.{entries_there, entries_elsewhere, entries_nowhere}
 use Rattle.sample_writer.specs.FlowValues.{flow_words_value, flow_value, flow_given, flow_octets, is_given}
 use Rattle.std.specs.Prelude.{Result, Ok, Err}
-use Rattle.sflow.specs.declared.Refused.{Refused}
 use Rattle.sflow.specs.Decode.{refused_at}
 
 -- ---- values

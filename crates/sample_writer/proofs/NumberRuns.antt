@@ -22,7 +22,7 @@ use Rattle.sample_writer.specs.CounterValues.{WordOrHyper}
 use Rattle.form_writer.proofs.WordRuns.{words_length, stored_nothing}
 use Rattle.form_writer.proofs.Stores.{alone_fits, alone_full}
 use Rattle.sample_writer.proofs.FitTests.{first_width, fits_told, fits_length}
-use Rattle.std.specs.Prelude.{Option, Some, None}
+use Rattle.std.specs.Prelude.{Option}
 
 -- Numbers stored up to the index i, and the offset p behind them: with those that are left, the buffer is as with all.
 pub record Putting (d₀ : List ℕ) (at : ℕ) (ws ns d : List ℕ) (i p : ℕ) : Type 0 where

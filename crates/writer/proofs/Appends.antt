@@ -25,7 +25,7 @@ use Rattle.form_writer.specs.declared.parts.WriteRefusal.TheVariants.{BadLimit, 
 use Rattle.form_writer.specs.Parts.{write_alone, write_value}
 use Rattle.writer.specs.Datagrams.{limit_allowed, count_at, ready_so_far, checked_at, appended_when, appended_octets}
 use Rattle.writer.proofs.Limits.{limit_allowed_is}
-use Rattle.std.specs.Prelude.{Option, Some, None}
+use Rattle.std.specs.Prelude.{Option}
 
 -- ---- the count word lies within the datagram so far
 

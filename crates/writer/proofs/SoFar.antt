@@ -19,9 +19,8 @@ use Rattle.reader.specs.declared.datagram.Head.{Head}
 use Rattle.reader.specs.Datagrams.{datagram_of, as_head}
 use Rattle.form_writer.specs.declared.parts.WriteRefusal.TheVariants.{BadLimit, BadDatagram}
 use Rattle.writer.specs.Datagrams.{limit_allowed, count_at, ready_so_far, checked_at}
-use Rattle.std.specs.Prelude.{Result, Ok, Err}
-use Rattle.sflow.specs.declared.Refused.{Refused}
-use Rattle.sflow.specs.Decode.{refused_at, as_read}
+use Rattle.std.specs.Prelude.{Ok, Err}
+use Rattle.sflow.specs.Decode.{refused_at}
 
 -- ---- the samples of an accepted datagram are few
 

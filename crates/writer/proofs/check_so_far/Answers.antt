@@ -21,17 +21,17 @@ returns-in_default c =
     (sym c.read.ensures ∙ c.in_default.is)
 
 pub overflow_sub-result : goal.overflow_sub-result
-overflow_sub-result c = head_at _ _ (sym c.read.ensures ∙ c.in-Found.is)
+overflow_sub-result c = head_at _ _ (sym c.read.ensures ∙ c.in-Ok.is)
 
 pub overflow_add-result : goal.overflow_add-result
 overflow_add-result c =
-    let f = head_few (take c.args.length c.args.d.now) (octets_take c.args.length c.args.d.now (λ i. (c.type_inv.d i).fits)) _ (sym c.read.ensures ∙ c.in-Found.is) in
+    let f = head_few (take c.args.length c.args.d.now) (octets_take c.args.length c.args.d.now (λ i. (c.type_inv.d i).fits)) _ (sym c.read.ensures ∙ c.in-Ok.is) in
     omega arith
 
 pub returns : goal.returns
 returns c =
     so_far_found _ _ _ (sym c.limit_allowed.ensures ∙ c.if-not-limit_allowed.false) c.if-limit-length.false _
-    (sym c.read.ensures ∙ c.in-Found.is)
+    (sym c.read.ensures ∙ c.in-Ok.is)
 
 pub returns-then-not-limit_allowed : goal.returns-then-not-limit_allowed
 returns-then-not-limit_allowed c = so_far_limit _ _ _ (sym c.limit_allowed.ensures ∙ c.if-not-limit_allowed.true)

@@ -6,4 +6,4 @@ pub returns-in_default : goal.returns-in_default
 returns-in_default c = entries_refused _ c.args.extended.now _ _ (sym c.pass_extended.ensures ∙ c.in_default.is)
 
 pub returns : goal.returns
-returns c = entries_tested _ c.args.extended.now _ (sym c.pass_extended.ensures ∙ c.in-Next.is)
+returns c = entries_tested _ c.args.extended.now _ (sym c.pass_extended.ensures ∙ c.in-Ok.is)

@@ -13,13 +13,13 @@ returns-in_default c =
 pub returns-then-end-packet : goal.returns-then-end-packet
 returns-then-end-packet c =
     packet_none _ _ _ _
-    (value_elsewhere packet_data_type c.args.packet.now _ (sym c.pass_packet.ensures ∙ c.in-Next.is) c.if-end-packet.true)
+    (value_elsewhere packet_data_type c.args.packet.now _ (sym c.pass_packet.ensures ∙ c.in-Ok.is) c.if-end-packet.true)
 
 pub returns : goal.returns
 returns c =
     let extended = c.type_inv.extended in
     let packet = c.type_inv.packet in
-    let p = value_there packet_data_type c.args.packet.now _ (sym c.pass_packet.ensures ∙ c.in-Next.is) c.if-end-packet.false in
+    let p = value_there packet_data_type c.args.packet.now _ (sym c.pass_packet.ensures ∙ c.in-Ok.is) c.if-end-packet.false in
     let t = (value_in_exactly packet_data_type c.args.packet.now (λ i. (packet i).fits) p.0).0 p.1 in
     let words = c.well_formed.1.0 in
     packet_given _ _ p.0 _ _ _ _ p.1

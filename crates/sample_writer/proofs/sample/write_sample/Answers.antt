@@ -11,11 +11,11 @@ returns-in_default c = none_given sample_type _ _ (value_nowhere sample_type c.a
 pub returns-then-end-sample : goal.returns-then-end-sample
 returns-then-end-sample c =
     none_given sample_type _ _
-    (value_elsewhere sample_type c.args.sample.now _ (sym c.pass_sample.ensures ∙ c.in-Next.is) c.if-end-sample.true)
+    (value_elsewhere sample_type c.args.sample.now _ (sym c.pass_sample.ensures ∙ c.in-Ok.is) c.if-end-sample.true)
 
 pub returns : goal.returns
 returns c =
     let octets = c.type_inv.sample in
     let sample = c.args.sample.now in
-    let v = value_there sample_type sample _ (sym c.pass_sample.ensures ∙ c.in-Next.is) c.if-end-sample.false in
+    let v = value_there sample_type sample _ (sym c.pass_sample.ensures ∙ c.in-Ok.is) c.if-end-sample.false in
     sample_written sample (λ i. (octets i).fits) v.0 _ _ _ v.1 c.write_parts.ensures
