@@ -1,5 +1,5 @@
 -- Why listing stops: each reason exactly where it holds. Assumes nothing.
-use Rattle.std.proofs.Common.{◌≡◌, ℕ, zero, suc, ◌+◌, ◌<◌, ◌≤◌, Bool, true, false, cond, leb, ◌⊎◌, ◌↔◌, List, length, drop, sym, refl, ap, ◌∙◌, subst, inl, inr, true≢false, arith, leb-false, Ok, Err, Some, None}
+use Rattle.std.proofs.Common.{◌≡◌, ℕ, zero, suc, ◌+◌, ◌<◌, ◌≤◌, Bool, true, false, cond, leb, ◌⊎◌, ◌↔◌, List, length, drop, sym, refl, ◌∙◌, subst, inl, inr, true≢false, arith, leb-false, Ok, Err, Some, None}
 use Rattle.reader.specs.Datagrams.{datagram_read}
 use Rattle.xdr.specs.Writes.{stored, Afterwards, afterwards}
 use Rattle.reader.specs.declared.datagram.HeadRead.{HeadRead}
@@ -8,7 +8,6 @@ use Rattle.record_lines.specs.Records.{record_lines, room_of, answer_to, list_re
 use Rattle.listing.specs.Captures.{frame_of, datagram_in, more, behind, on_frame, on_listing, go_on, list_step, is_over, list_from, begins, list_all, NoRoomFor, StopsAt}
 use Rattle.listing.specs.Captures.{Frame}
 use Rattle.listing.specs.declared.FrameFault.TheVariants.{Short, Wrong}
-use Rattle.listing.specs.declared.Stop.{Stop}
 use Rattle.listing.specs.declared.Stop.TheVariants.{GoesOn, NoRecord, Output, BadRecord}
 use Rattle.listing.specs.declared.State.{State}
 use Rattle.listing.specs.declared.Place.{Place}

@@ -331,10 +331,8 @@ pub enum Listed {
 pub fn list_record(d: &mut [u8], at: usize, index: u64, s: &[u8]) -> Option<Listed>
     ensures { afterwards result d.new ≡ list_record d.old at index s.now }
 {
-    if d.len() < at {
-        return None;
-    }
-    if d.len() - at < 164 {
+    let room = d.len().checked_sub(at)?;
+    if room < 164 {
         return None;
     }
     match reader::datagram::read(s) {
@@ -344,7 +342,7 @@ pub fn list_record(d: &mut [u8], at: usize, index: u64, s: &[u8]) -> Option<List
         }
         HeadRead::Found(head) => {
             let count = head.samples.count;
-            if (d.len() - at - 164) / 136 < count as usize {
+            if (room - 164) / 136 < count as usize {
                 return None;
             }
             let next = agent_line(d, at, index, head, s.len());
