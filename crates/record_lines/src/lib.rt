@@ -178,15 +178,16 @@ fn dotted_text(d: &mut [u8], at: usize, v: u32) -> usize
     labelled(d, p3, b".", (v % 256) as u64)
 }
 
-// Four words in hexadecimal digits.
-fn hex_text(d: &mut [u8], at: usize, v: u32, w: u32, x: u32, y: u32) -> usize
+// An address's four words in hexadecimal digits.
+fn hex_text(d: &mut [u8], at: usize, agent: Address) -> usize
     requires { at + 32 ≤ length d.old }
-    ensures { Puts d.old at (hex_text v w x y) result d.new × (result ≤ at + 32) }
+    ensures { Puts d.old at (hex_text agent.octets.a agent.octets.b agent.octets.c agent.octets.d) result d.new × (result ≤ at + 32) }
 {
-    let p1 = hex_word(d, at, v);
-    let p2 = hex_word(d, p1, w);
-    let p3 = hex_word(d, p2, x);
-    hex_word(d, p3, y)
+    let words = agent.octets;
+    let p1 = hex_word(d, at, words.a);
+    let p2 = hex_word(d, p1, words.b);
+    let p3 = hex_word(d, p2, words.c);
+    hex_word(d, p3, words.d)
 }
 
 // An agent's address.
@@ -197,14 +198,7 @@ fn agent_text(d: &mut [u8], at: usize, agent: Address) -> usize
     if agent.kind == 1 {
         return dotted_text(d, at, agent.octets.a);
     }
-    hex_text(
-        d,
-        at,
-        agent.octets.a,
-        agent.octets.b,
-        agent.octets.c,
-        agent.octets.d,
-    )
+    hex_text(d, at, agent)
 }
 
 // The start of an accepted record's first line.
