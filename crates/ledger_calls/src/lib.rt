@@ -155,6 +155,7 @@ fn enter_table(table: &mut [u64], x: FlowEntry) -> Result<(), EntryRefusal>
 // 2^32. Answers 0, and the eleven numbers of the sample's row are those of the row afterwards, every other number as it was; or 40 where every row belongs to
 // another source, 41 where the sequence number is the one kept, 42 where it went back, 99 where the table has fewer than 704 numbers: then the table is as it
 // was. 43 cannot arise, for the row taken is the source's own or a free one. 99 is this function's own, not one of document 01's.
+// The values stand apart, as C hands them in.
 pub fn enter(
     table: &mut [u64],
     agent_type: u32,

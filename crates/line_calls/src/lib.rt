@@ -72,7 +72,7 @@ pub fn list(capture: &[u8], output: &mut [u8], state: &mut [u64]) -> u32
 
 // Writes what follows a capture's last record to the output's front: "capture bad at" and the offset where bad is not 0, then the last line with the
 // records, refused records and samples. Answers 0, and the array takes the length written; or 20 where the output has fewer than 123 octets: then nothing is
-// changed.
+// changed. The flag and the numbers stand apart, as C hands them in.
 pub fn end_lines(
     output: &mut [u8],
     offset: u64,

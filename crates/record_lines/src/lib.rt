@@ -177,15 +177,16 @@ fn dotted_text(d: &mut [u8], at: usize, v: u32) -> usize
     labelled(d, p3, b".", (v % 256) as u64)
 }
 
-// Four words in hexadecimal digits.
-fn hex_text(d: &mut [u8], at: usize, v: u32, w: u32, x: u32, y: u32) -> usize
+// An address's four words in hexadecimal digits.
+fn hex_text(d: &mut [u8], at: usize, agent: Address) -> usize
     requires { at + 32 ≤ length d.old }
-    ensures { Puts d.old at (hex_text v w x y) result d.new × (result ≤ at + 32) }
+    ensures { Puts d.old at (hex_text agent.octets.a agent.octets.b agent.octets.c agent.octets.d) result d.new × (result ≤ at + 32) }
 {
-    let p1 = hex_word(d, at, v);
-    let p2 = hex_word(d, p1, w);
-    let p3 = hex_word(d, p2, x);
-    hex_word(d, p3, y)
+    let words = agent.octets;
+    let p1 = hex_word(d, at, words.a);
+    let p2 = hex_word(d, p1, words.b);
+    let p3 = hex_word(d, p2, words.c);
+    hex_word(d, p3, words.d)
 }
 
 // An agent's address.
@@ -196,14 +197,7 @@ fn agent_text(d: &mut [u8], at: usize, agent: Address) -> usize
     if agent.kind == 1 {
         return dotted_text(d, at, agent.octets.a);
     }
-    hex_text(
-        d,
-        at,
-        agent.octets.a,
-        agent.octets.b,
-        agent.octets.c,
-        agent.octets.d,
-    )
+    hex_text(d, at, agent)
 }
 
 // The start of an accepted record's first line.
@@ -333,10 +327,8 @@ pub enum Listed {
 pub fn list_record(d: &mut [u8], at: usize, index: u64, s: &[u8]) -> Option<Listed>
     ensures { afterwards result d.new ≡ list_record d.old at index s.now }
 {
-    if d.len() < at {
-        return None;
-    }
-    if d.len() - at < 164 {
+    let room = d.len().checked_sub(at)?;
+    if room < 164 {
         return None;
     }
     match reader::datagram::read(s) {
@@ -346,7 +338,7 @@ pub fn list_record(d: &mut [u8], at: usize, index: u64, s: &[u8]) -> Option<List
         }
         Ok(head) => {
             let count = head.samples.count;
-            if (d.len() - at - 164) / 136 < count as usize {
+            if (room - 164) / 136 < count as usize {
                 return None;
             }
             let next = agent_line(d, at, index, head, s.len());

@@ -1,13 +1,9 @@
-use borrow.Author.Rules.{rules}
 use native.Mathlib.Omega.{arith}
 use Prim.Native.Nat.{◌+◌, ◌-◌}
-use mathlib.Core.Path.{◌≡◌, refl, sym, ap, ◌∙◌}
+use mathlib.Core.Path.{◌≡◌, sym, ap, ◌∙◌}
 use Rattle.record_lines.proofs.Records.{leaves_next, leaves_end, walked_end, walked_more, walked_over, walked_stop}
 use Rattle.std.specs.Prelude.{Ok}
 use Rattle.record_lines.proofs.sample_lines.Goals as goal
-
-pub loop-more-init : goal.loop-more-init
-loop-more-init c = (search rules, refl, λ r e h p. p)
 
 pub returns-in_default : goal.returns-in_default
 returns-in_default c =
@@ -34,9 +30,6 @@ loop-more-preserved c =
       omega arith,
       leaves_next _ _ _ _ _ _ _ _ _ _ l.1 l.2 (walked_more _ _ _ _ _ c.loop-more-test.true found) c.sample_line-out.ensures.0,
     )
-
-pub shape_of-d : goal.shape_of-d
-shape_of-d c = c.loop-more.invariant.1
 
 pub returns : goal.returns
 returns c = (leaves_end _ _ _ _ _ _ c.loop-more.invariant.2 (walked_end _ _ _ c.loop-more-test.false) (omega arith), omega arith)
