@@ -1,12 +1,16 @@
 -- What the views of a packet are, by the numbers read of its octets. Assumes nothing.
-use Prim.Native.Nat.{ℕ, ◌+◌, ◌*◌, ◌-◌, ◌≤◌}
+use Prim.Native.Nat.{ℕ, min, ◌+◌, ◌*◌, ◌-◌, ◌≤◌}
 use native.Mathlib.Omega.{arith}
-use mathlib.Core.Path.{◌≡◌, ap}
+use mathlib.Core.Path.{◌≡◌, ◌∙◌, ap}
 use mathlib.Core.List.{List}
 use mathlib.Core.Bool.{true, ◌||◌}
 use lib.ListN.{length, get_or, take, drop, length-drop}
 use lib.Seq.{take_all}
 use lib.Dec.{eqb}
+use Rattle.std.specs.List.{slice_range}
+use Rattle.std.proofs.lemmas.List.{take_min}
+use Rattle.fields.specs.declared.strings.Text.{Text}
+use Rattle.fields.specs.Strings.{text_in}
 use borrow.Author.Tests.{eq-eqb, le-leb}
 use Rattle.xdr.proofs.Octets.{pair_number, word_number}
 use Rattle.packet.specs.declared.Ports.{Ports}
@@ -29,9 +33,15 @@ module _ (x : List ℕ) where
   unfolding ipv4_view
   ipv4_seen e source dest protocol size ports a b c d f = rw (e, word_number x 12, word_number x 16, a, b, f, d, c)
 
+  -- octets lent from an offset to the end
+  to_end : (k : ℕ) → take (length x - k) (drop k x) ≡ drop k x
+  to_end k = let n : length (drop k x) ≤ length x - k = rw length-drop (omega arith) in take_all (length x - k) (drop k x) n
+
   -- an Ethernet frame's IPv4, in the octets lent from 14 to the end
   pub ethernet_ipv4 : (protocol : ℕ) → protocol ≡ 1 → holds_ipv4 x ≡ true → ipv4_view (take (length x - 14) (drop 14 x)) ≡ header_view protocol x
   unfolding header_view
-  ethernet_ipv4 protocol e h =
-      let n : length (drop 14 x) ≤ length x - 14 = rw length-drop (omega arith) in
-      rw (eq-eqb protocol 1 e, h) (ap ipv4_view (take_all (length x - 14) (drop 14 x) n))
+  ethernet_ipv4 protocol e h = rw (eq-eqb protocol 1 e, h) (ap ipv4_view (to_end 14))
+
+  -- a header's octets, as many as are there
+  pub text_lent : (t : Text) (rest : List ℕ) (n : ℕ) → rest ≡ slice_range x t.at (length x) → n ≡ min t.length (length rest) → take n rest ≡ text_in x t
+  text_lent t rest n e h = rw h (take_min t.length rest ∙ ap (take t.length) (e ∙ to_end t.at))

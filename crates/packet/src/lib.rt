@@ -126,15 +126,11 @@ fn header_view(x: &[u8], protocol: u32) -> PacketView
 fn header_in(s: &[u8], protocol: u32, t: Text) -> PacketView
     ensures { result ≡ header_view protocol (text_in s.now t) }
 {
-    let at = t.at;
-    let n = t.length as usize;
-    if s.len() < at {
+    let Some(rest) = s.get(t.at..) else {
         return no_view();
-    }
-    if s.len() - at < n {
-        return header_view(&s[at..], protocol);
-    }
-    header_view(&s[at..at + n], protocol)
+    };
+    let n = (t.length as usize).min(rest.len());
+    header_view(&rest[..n], protocol)
 }
 
 // Packet data that were read from octets.

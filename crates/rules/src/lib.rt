@@ -18,7 +18,7 @@ pub const MAX_CALLS: usize = 4;
 pub const MAX_ITEMS: usize = 16;
 
 // A rule as the machine is fed it.
-#[derive(Clone, Copy)]
+#[derive(Clone, Copy, Default)]
 pub struct Rule {
     pub attribute: u8,
     pub opcode: u8,
@@ -29,14 +29,14 @@ pub struct Rule {
 
 // What a rule declares of its arrival, in document 01's terms: home is 0 for the main part, else the number of its subroutine's first rule; depth
 // counts the open calls, held the queued items.
-#[derive(Clone, Copy)]
+#[derive(Clone, Copy, Default)]
 pub struct Declared {
     pub home: usize,
     pub depth: u8,
     pub held: u8,
 }
 
-#[derive(Clone, Copy)]
+#[derive(Clone, Copy, Default)]
 pub struct RuleRecord {
     pub mark: u32,
     pub rule: Rule,
@@ -184,21 +184,7 @@ pub fn action_of(opcode: u8) -> Action
 fn no_record() -> RuleRecord
     ensures { result ≡ no_record }
 {
-    RuleRecord {
-        mark: 0,
-        rule: Rule {
-            attribute: 0,
-            opcode: 0,
-            mask: 0,
-            value: 0,
-            parameter: 0,
-        },
-        declared: Declared {
-            home: 0,
-            depth: 0,
-            held: 0,
-        },
-    }
+    RuleRecord::default()
 }
 
 // What the machine is fed of the record at an offset.
