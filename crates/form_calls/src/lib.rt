@@ -1,16 +1,18 @@
 #![tactic(auto)]
 // Forms written and flow samples appended from words and octets, as functions on numbers and slices. Crate export gives them to C and Rust.
-ghost use Rattle.std.specs.Prelude.{◌+◌, ◌≤◌, ◌≡◌, length};
+ghost use Rattle.std.specs.Prelude.{◌≡◌, cond, eqb, length};
 ghost use Rattle.std.proofs.Math.Option.{none, some};
 ghost use Rattle.xdr.specs.Writes.{afterwards};
 ghost use Rattle.sflow.specs.Decode.{value_in};
 ghost use Rattle.sflow.specs.Datagram.{packet_data_type, as_path_type, extended_data_type, sample_type};
+ghost use Rattle.fields.specs.Parts.{item};
+ghost use Rattle.form_writer.specs.declared.parts.WriteRefusal.TheVariants.{BadValue};
 ghost use Rattle.form_writer.specs.Parts.{write_given};
 ghost use Rattle.form_writer.specs.Values.{header_value};
 ghost use Rattle.writer.specs.Datagrams.{appended};
 ghost use Rattle.numbers.specs.Reports.{handed};
 ghost use Rattle.write_reports.specs.WriteReports.{hand_over};
-ghost use Rattle.form_calls.specs.Forms.{header_from, ipv4_in, ipv4_from, quad_in, ipv6_in, ipv6_from, switch_from, router_from, gateway_from, user_from, url_from, segment_from, flow_words_in, flow_from, form_written};
+ghost use Rattle.form_calls.specs.Forms.{header_from, ipv4_in, ipv4_from, ipv6_in, ipv6_from, switch_from, router_from, gateway_from, user_from, url_from, segment_from, flow_words_in, flow_from, form_written};
 
 use extended_data::{Router, Switch};
 use fields::address::Address;
@@ -24,93 +26,112 @@ use xdr::Quad;
 fn header(words: &[u32], octets: &[u8], buffer: &mut [u8]) -> Result<usize, WriteRefusal>
     ensures { afterwards result buffer.new ≡ write_given packet_data_type (header_from words.now octets.now) buffer.old }
 {
-    if words.len() != 2 {
+    let [protocol, frame_length] = *words else {
         return Err(WriteRefusal::BadValue);
-    }
-    form_writer::packet::write_header(buffer, words[0], words[1], octets)
+    };
+    form_writer::packet::write_header(buffer, protocol, frame_length, octets)
 }
 
 // IPv4 data from eight words.
-fn ipv4_in(words: &[u32]) -> SampledIpv4
-    requires { 8 ≤ length words.now }
-    ensures { result ≡ ipv4_in words.now }
+fn ipv4_in(words: &[u32]) -> Result<SampledIpv4, WriteRefusal>
+    ensures { result ≡ cond (eqb (length words.now) 8) (Ok (ipv4_in words.now)) (Err BadValue) }
 {
-    SampledIpv4 {
-        length: words[0],
-        protocol: words[1],
-        src_ip: words[2],
-        dst_ip: words[3],
-        src_port: words[4],
-        dst_port: words[5],
-        tcp_flags: words[6],
-        tos: words[7],
-    }
+    let [
+        length,
+        protocol,
+        src_ip,
+        dst_ip,
+        src_port,
+        dst_port,
+        tcp_flags,
+        tos,
+    ] = *words
+    else {
+        return Err(WriteRefusal::BadValue);
+    };
+    Ok(SampledIpv4 {
+        length,
+        protocol,
+        src_ip,
+        dst_ip,
+        src_port,
+        dst_port,
+        tcp_flags,
+        tos,
+    })
 }
 
 // IPv4 data.
 fn ipv4(words: &[u32], buffer: &mut [u8]) -> Result<usize, WriteRefusal>
     ensures { afterwards result buffer.new ≡ write_given packet_data_type (ipv4_from words.now) buffer.old }
 {
-    if words.len() != 8 {
+    form_writer::packet::write_ipv4(buffer, ipv4_in(words)?)
+}
+
+// IPv6 data from fourteen words, four for each address.
+fn ipv6_in(words: &[u32]) -> Result<SampledIpv6, WriteRefusal>
+    ensures { result ≡ cond (eqb (length words.now) 14) (Ok (ipv6_in words.now)) (Err BadValue) }
+{
+    let [
+        length,
+        protocol,
+        s1,
+        s2,
+        s3,
+        s4,
+        t1,
+        t2,
+        t3,
+        t4,
+        src_port,
+        dst_port,
+        tcp_flags,
+        priority,
+    ] = *words
+    else {
         return Err(WriteRefusal::BadValue);
-    }
-    let x = ipv4_in(words);
-    form_writer::packet::write_ipv4(buffer, x)
-}
-
-// An address's four words, from a position on.
-fn quad_in(words: &[u32], at: usize) -> Quad
-    requires { at + 4 ≤ length words.now }
-    ensures { result ≡ quad_in words.now at }
-{
-    Quad {
-        a: words[at],
-        b: words[at + 1],
-        c: words[at + 2],
-        d: words[at + 3],
-    }
-}
-
-// IPv6 data from fourteen words.
-fn ipv6_in(words: &[u32]) -> SampledIpv6
-    requires { 14 ≤ length words.now }
-    ensures { result ≡ ipv6_in words.now }
-{
-    SampledIpv6 {
-        length: words[0],
-        protocol: words[1],
-        src_ip: quad_in(words, 2),
-        dst_ip: quad_in(words, 6),
-        src_port: words[10],
-        dst_port: words[11],
-        tcp_flags: words[12],
-        priority: words[13],
-    }
+    };
+    Ok(SampledIpv6 {
+        length,
+        protocol,
+        src_ip: Quad {
+            a: s1,
+            b: s2,
+            c: s3,
+            d: s4,
+        },
+        dst_ip: Quad {
+            a: t1,
+            b: t2,
+            c: t3,
+            d: t4,
+        },
+        src_port,
+        dst_port,
+        tcp_flags,
+        priority,
+    })
 }
 
 // IPv6 data.
 fn ipv6(words: &[u32], buffer: &mut [u8]) -> Result<usize, WriteRefusal>
     ensures { afterwards result buffer.new ≡ write_given packet_data_type (ipv6_from words.now) buffer.old }
 {
-    if words.len() != 14 {
-        return Err(WriteRefusal::BadValue);
-    }
-    let x = ipv6_in(words);
-    form_writer::packet::write_ipv6(buffer, x)
+    form_writer::packet::write_ipv6(buffer, ipv6_in(words)?)
 }
 
 // A switch entry.
 fn switch(words: &[u32], buffer: &mut [u8]) -> Result<usize, WriteRefusal>
     ensures { afterwards result buffer.new ≡ write_given extended_data_type (switch_from words.now) buffer.old }
 {
-    if words.len() != 4 {
+    let [src_vlan, src_priority, dst_vlan, dst_priority] = *words else {
         return Err(WriteRefusal::BadValue);
-    }
+    };
     let x = Switch {
-        src_vlan: words[0],
-        src_priority: words[1],
-        dst_vlan: words[2],
-        dst_priority: words[3],
+        src_vlan,
+        src_priority,
+        dst_vlan,
+        dst_priority,
     };
     form_writer::extended::write_switch(buffer, x)
 }
@@ -119,16 +140,16 @@ fn switch(words: &[u32], buffer: &mut [u8]) -> Result<usize, WriteRefusal>
 fn router(words: &[u32], buffer: &mut [u8]) -> Result<usize, WriteRefusal>
     ensures { afterwards result buffer.new ≡ write_given extended_data_type (router_from words.now) buffer.old }
 {
-    if words.len() != 7 {
+    let [kind, a, b, c, d, src_mask, dst_mask] = *words else {
         return Err(WriteRefusal::BadValue);
-    }
+    };
     let x = Router {
         nexthop: Address {
-            kind: words[0],
-            octets: quad_in(words, 1),
+            kind,
+            octets: Quad { a, b, c, d },
         },
-        src_mask: words[5],
-        dst_mask: words[6],
+        src_mask,
+        dst_mask,
     };
     form_writer::extended::write_router(buffer, x)
 }
@@ -137,26 +158,39 @@ fn router(words: &[u32], buffer: &mut [u8]) -> Result<usize, WriteRefusal>
 fn gateway(words: &[u32], path: &[u8], buffer: &mut [u8]) -> Result<usize, WriteRefusal>
     ensures { afterwards result buffer.new ≡ write_given extended_data_type (gateway_from words.now path.now) buffer.old }
 {
-    if words.len() < 5 {
+    let [
+        router_as,
+        src_as,
+        src_peer_as,
+        count,
+        localpref,
+        communities @ ..,
+    ] = words
+    else {
         return Err(WriteRefusal::BadValue);
-    }
+    };
     form_writer::extended::write_gateway(
         buffer,
-        words[0],
-        words[1],
-        words[2],
-        words[3],
+        *router_as,
+        *src_as,
+        *src_peer_as,
+        *count,
         path,
-        &words[5..],
-        words[4],
+        communities,
+        *localpref,
     )
 }
 
 // A user entry.
-fn user(words: &[u32], src_user: &[u8], dst_user: &[u8], buffer: &mut [u8]) -> Result<usize, WriteRefusal>
+fn user(
+    words: &[u32],
+    src_user: &[u8],
+    dst_user: &[u8],
+    buffer: &mut [u8],
+) -> Result<usize, WriteRefusal>
     ensures { afterwards result buffer.new ≡ write_given extended_data_type (user_from words.now src_user.now dst_user.now) buffer.old }
 {
-    if words.len() != 0 {
+    if !words.is_empty() {
         return Err(WriteRefusal::BadValue);
     }
     form_writer::extended::write_user(buffer, src_user, dst_user)
@@ -166,50 +200,66 @@ fn user(words: &[u32], src_user: &[u8], dst_user: &[u8], buffer: &mut [u8]) -> R
 fn url(words: &[u32], octets: &[u8], buffer: &mut [u8]) -> Result<usize, WriteRefusal>
     ensures { afterwards result buffer.new ≡ write_given extended_data_type (url_from words.now octets.now) buffer.old }
 {
-    if words.len() != 1 {
+    let [direction] = *words else {
         return Err(WriteRefusal::BadValue);
-    }
-    form_writer::extended::write_url(buffer, words[0], octets)
+    };
+    form_writer::extended::write_url(buffer, direction, octets)
 }
 
 // A path segment.
 fn segment(words: &[u32], buffer: &mut [u8]) -> Result<usize, WriteRefusal>
     ensures { afterwards result buffer.new ≡ write_given as_path_type (segment_from words.now) buffer.old }
 {
-    if words.len() < 1 {
+    let [kind, numbers @ ..] = words else {
         return Err(WriteRefusal::BadValue);
-    }
-    form_writer::extended::write_segment(buffer, words[0], &words[1..])
+    };
+    form_writer::extended::write_segment(buffer, *kind, numbers)
 }
 
-// A flow sample's words.
-fn flow_words_in(words: &[u32]) -> FlowWords
-    requires { 7 ≤ length words.now }
-    ensures { result ≡ flow_words_in words.now }
+// A flow sample's words and its count of extended entries, from eight words.
+fn flow_words_in(words: &[u32]) -> Result<(FlowWords, u32), WriteRefusal>
+    ensures { result ≡ cond (eqb (length words.now) 8) (Ok (flow_words_in words.now, item words.now 7)) (Err BadValue) }
 {
-    FlowWords {
-        sequence_number: words[0],
-        source_id: words[1],
-        sampling_rate: words[2],
-        sample_pool: words[3],
-        drops: words[4],
-        input: words[5],
-        output: words[6],
-    }
+    let [
+        sequence_number,
+        source_id,
+        sampling_rate,
+        sample_pool,
+        drops,
+        input,
+        output,
+        count,
+    ] = *words
+    else {
+        return Err(WriteRefusal::BadValue);
+    };
+    let x = FlowWords {
+        sequence_number,
+        source_id,
+        sampling_rate,
+        sample_pool,
+        drops,
+        input,
+        output,
+    };
+    Ok((x, count))
 }
 
 // A flow sample.
-fn flow(words: &[u32], octets: &[u8], entries: &[u8], buffer: &mut [u8]) -> Result<usize, WriteRefusal>
+fn flow(
+    words: &[u32],
+    octets: &[u8],
+    entries: &[u8],
+    buffer: &mut [u8],
+) -> Result<usize, WriteRefusal>
     ensures { afterwards result buffer.new ≡ write_given sample_type (flow_from words.now (value_in packet_data_type octets.now) entries.now) buffer.old }
 {
-    if words.len() != 8 {
-        return Err(WriteRefusal::BadValue);
-    }
-    let x = flow_words_in(words);
-    sample_writer::sample::write_flow(buffer, x, octets, words[7], entries)
+    let (w, count) = flow_words_in(words)?;
+    sample_writer::sample::write_flow(buffer, w, octets, count, entries)
 }
 
-// The form of a kind.
+// The form of a kind. Kinds are the numbers that C gives.
+#[tactic(auto, unfolding(crate::specs::Forms::form_written))]
 fn write_kind(
     kind: u32,
     words: &[u32],
@@ -284,19 +334,18 @@ pub fn append_header(
     ensures { handed result buffer.new out.new
         ≡ hand_over (appended (flow_from words.now (some (header_value protocol frame_length header.now)) entries.now) limit length buffer.old) out.old }
 {
-    if words.len() != 8 {
+    let Ok((w, count)) = flow_words_in(words) else {
         return append_nothing(buffer, limit, length, out);
-    }
-    let x = flow_words_in(words);
+    };
     let answer = writer::append_header(
         buffer,
         limit,
         length,
-        x,
+        w,
         protocol,
         frame_length,
         header,
-        words[7],
+        count,
         entries,
     );
     report(answer, out)
@@ -315,15 +364,13 @@ pub fn append_ipv4(
     ensures { handed result buffer.new out.new
         ≡ hand_over (appended (flow_from words.now (ipv4_from packet.now) entries.now) limit length buffer.old) out.old }
 {
-    if words.len() != 8 {
+    let Ok((w, count)) = flow_words_in(words) else {
         return append_nothing(buffer, limit, length, out);
-    }
-    if packet.len() != 8 {
+    };
+    let Ok(x) = ipv4_in(packet) else {
         return append_nothing(buffer, limit, length, out);
-    }
-    let w = flow_words_in(words);
-    let x = ipv4_in(packet);
-    let answer = writer::append_ipv4(buffer, limit, length, w, x, words[7], entries);
+    };
+    let answer = writer::append_ipv4(buffer, limit, length, w, x, count, entries);
     report(answer, out)
 }
 
@@ -340,14 +387,12 @@ pub fn append_ipv6(
     ensures { handed result buffer.new out.new
         ≡ hand_over (appended (flow_from words.now (ipv6_from packet.now) entries.now) limit length buffer.old) out.old }
 {
-    if words.len() != 8 {
+    let Ok((w, count)) = flow_words_in(words) else {
         return append_nothing(buffer, limit, length, out);
-    }
-    if packet.len() != 14 {
+    };
+    let Ok(x) = ipv6_in(packet) else {
         return append_nothing(buffer, limit, length, out);
-    }
-    let w = flow_words_in(words);
-    let x = ipv6_in(packet);
-    let answer = writer::append_ipv6(buffer, limit, length, w, x, words[7], entries);
+    };
+    let answer = writer::append_ipv6(buffer, limit, length, w, x, count, entries);
     report(answer, out)
 }

@@ -1,7 +1,0 @@
-use Rattle.write_reports.proofs.WriteReports.{handing}
-use Rattle.write_calls.proofs.write_counters.Goals as goal
-
-pub returns : goal.returns
-returns c =
-    handing c.args.out.now
-    c.write_counters-answer.ensures c.report.ensures
