@@ -2,7 +2,7 @@
 // The functions of crate export as symbols of a static library for programs in C and Rust, with the same contracts.
 ghost use Rattle.xdr.specs.Writes.{afterwards};
 ghost use Rattle.engine.specs.Results.{engine_of};
-ghost use Rattle.extended_data.specs.ExtendedData.{segment_of, as_segment, extended_of, as_extended};
+ghost use Rattle.extended_data.specs.ExtendedData.{segment_of, extended_of};
 ghost use Rattle.form_calls.specs.Forms.{ipv4_from, ipv6_from, flow_from, form_written};
 ghost use Rattle.form_writer.specs.Parts.{write_given};
 ghost use Rattle.form_writer.specs.Values.{header_value};
@@ -20,7 +20,7 @@ ghost use Rattle.rules.specs.Checks.{check};
 ghost use Rattle.sample_calls.specs.SampleReports.{sample_report};
 ghost use Rattle.sample_writer.specs.CounterValues.{counters_value};
 ghost use Rattle.sflow.specs.Datagram.{as_path_type, extended_data_type, sample_type};
-ghost use Rattle.sflow.specs.Decode.{decode, mapped, value_in};
+ghost use Rattle.sflow.specs.Decode.{decode, mapped, as_read, value_in};
 ghost use Rattle.write_reports.specs.WriteReports.{hand_over};
 ghost use Rattle.writer.specs.Datagrams.{started, appended};
 ghost use Rattle.std.specs.Prelude.{eqb, length, not, ◌≡◌};
@@ -47,7 +47,7 @@ pub extern "C" fn sflow4_sample(octets: &[u8], at: usize, out: &mut [u64]) -> u3
 #[unsafe(no_mangle)]
 pub extern "C" fn sflow4_extended(octets: &[u8], at: usize, out: &mut [u64]) -> u32
     ensures { afterwards result out.new
-        ≡ tell (extended_report (as_extended (mapped (extended_of at) (decode extended_data_type octets.now at)))) out.old }
+        ≡ tell (extended_report (as_read (mapped (extended_of at) (decode extended_data_type octets.now at)))) out.old }
 {
     export::sflow4_extended(octets, at, out)
 }
@@ -56,7 +56,7 @@ pub extern "C" fn sflow4_extended(octets: &[u8], at: usize, out: &mut [u64]) -> 
 #[unsafe(no_mangle)]
 pub extern "C" fn sflow4_segment(octets: &[u8], at: usize, out: &mut [u64]) -> u32
     ensures { afterwards result out.new
-        ≡ tell (segment_report (as_segment (mapped (segment_of at) (decode as_path_type octets.now at)))) out.old }
+        ≡ tell (segment_report (as_read (mapped (segment_of at) (decode as_path_type octets.now at)))) out.old }
 {
     export::sflow4_segment(octets, at, out)
 }

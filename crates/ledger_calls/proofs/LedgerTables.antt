@@ -1,20 +1,19 @@
 -- Laws of the ledger's table as numbers.
-use Rattle.std.proofs.Common.{◌≡◌, ℕ, zero, suc, ◌+◌, ◌*◌, ◌-◌, ◌≤◌, ◌<◌, Bool, true, false, not, eqb, Option, Some, None, Ok, Err, List, [], ◌∷◌, length, get_or, set, take, drop, refl, ap, sym, ◌∙◌, arith, le-leb, lt-ltb, eq-eqb, ne_eqb, length-drop, get_or-set_same}
+use Rattle.std.proofs.Common.{◌≡◌, ℕ, zero, suc, ◌+◌, ◌*◌, ◌-◌, ◌≤◌, ◌<◌, Bool, true, false, not, eqb, Some, None, Ok, Err, List, length, get_or, set, take, drop, refl, ap, sym, ◌∙◌, arith, le-leb, lt-ltb, eq-eqb, ne_eqb, length-drop, get_or-set_same}
 use borrow.Author.Tests.{lt-leb}
 use lib.Seq.{drop-drop, get_or-drop}
 use borrow.Rule.Slice.PartMut.{mid_of, put_mid}
 use Rattle.std.specs.List.{position, position_or_len}
 use Rattle.std.specs.Result.{result_and}
 use Rattle.std.proofs.lemmas.List.Sums.{position_or_len_is}
-use Rattle.xdr.specs.Writes.{stored, Afterwards, afterwards}
+use Rattle.xdr.specs.Writes.{stored, afterwards}
 use Rattle.xdr.proofs.Writing.{stored_part}
 use Rattle.ledger.proofs.Tables.{no_row, one_row}
 use Rattle.ledger.specs.declared.FlowEntry.{FlowEntry}
 use Rattle.ledger.specs.declared.Row.{Row}
-use Rattle.ledger.specs.declared.EntryRefusal.TheVariants.{TableFull}
-use Rattle.ledger.specs.Ledger.{TableEntered, RowEntered, EntryAnswer, row_or_refusal, entry_number, free_row, is_free, first_row, row_for, updated, with_row, entered}
+use Rattle.ledger.specs.Ledger.{TableEntered, RowEntered, EntryAnswer, row_or_refusal, free_row, is_free, row_for, updated}
 use Rattle.numbers.specs.Reports.{filled}
-use Rattle.ledger_calls.specs.LedgerTable.{row_in, rows_in, row_numbers, numbers_after, row_told, row_of, rows_told, entered_table}
+use Rattle.ledger_calls.specs.LedgerTable.{row_in, rows_in, row_numbers, row_told, row_of, rows_told, entered_table}
 use Rattle.numbers.proofs.Reports.{filled_whole, part_is}
 
 -- ---- rows read

@@ -28,7 +28,6 @@ use Rattle.line_calls.specs.ListedLines.{stop_number, frame_report, listed_repor
 use Rattle.line_calls.specs.LineNumbers.{Marked, FrameTold, RecordsTold, RecordTold, LinesTold}
 use Rattle.std.specs.Prelude.{Result, Ok, Err}
 use Rattle.sflow.specs.declared.Refused.{Refused}
-use Rattle.sflow.specs.Decode.{refused_at, as_read}
 use Rattle.std.specs.Prelude.{Option, Some, None}
 use Rattle.reader.specs.declared.datagram.Head.{Head}
 
@@ -132,12 +131,12 @@ module _ (d : List ℕ) (at n : ℕ) (s : List ℕ) where
         stores = λ q. refl;
         keeps = λ q. absurd (omega arith);
       }
-  listed  (Err e) f k =
+  listed (Err r) f k =
       record {
         no_room = (λ q. absurd (omega arith), λ q. absurd (omega arith));
         written = (λ q. k, λ q. refl);
         accepted = λ g e q. let z : ◌≡◌ {A = ℕ} 1 0 = ap found_rank (sym f ∙ e) in absurd (omega arith);
-        refused = λ e.why e.at e q. refl;
+        refused = λ why p g q. refl;
         stores = λ q. refl;
         keeps = λ q. absurd (omega arith);
       }

@@ -10,9 +10,8 @@ use Rattle.listing.specs.declared.Place.{Place}
 use Rattle.listing.specs.Captures.{length_in, frame_of, NoRoomFor}
 use Rattle.numbers.specs.Reports.{Report}
 use Rattle.line_calls.specs.ListedLines.{place_report}
-use Rattle.std.specs.Prelude.{Result, Ok, Err}
-use Rattle.sflow.specs.declared.Refused.{Refused}
-use Rattle.sflow.specs.Decode.{refused_at, as_read}
+use Rattle.std.specs.Prelude.{Ok, Err}
+use Rattle.sflow.specs.Decode.{refused_at}
 
 -- the mark 73 46
 abbrev pub Marked : List ℕ → Type 0

@@ -9,7 +9,8 @@ use Rattle.fields.specs.declared.strings.Text.{Text}
 use Rattle.fields.specs.declared.words.Entries.{Entries}
 use Rattle.fields.specs.Parts.{item}
 use Rattle.fields.specs.Strings.{text_in}
-use Rattle.extended_data.specs.ExtendedData.{segment_of, as_segment, extended_of, as_extended}
+use Rattle.sflow.specs.Decode.{as_read}
+use Rattle.extended_data.specs.ExtendedData.{segment_of, extended_of}
 use Rattle.reader.specs.Samples.{sample_of, as_sample}
 use Rattle.reader.specs.Datagrams.{datagram_read}
 use Rattle.form_writer.specs.declared.parts.WriteRefusal.{WriteRefusal}
@@ -48,7 +49,7 @@ segment_called s ns = segment_from (item ns 0 ∷ words_in s (words_at (item ns 
 
 abbrev pub path_called : List ℕ → ℕ → ℕ → List ℕ
 path_called s n at =
-    each_called (λ p. segment_report (as_segment (mapped (segment_of p) (decode as_path_type s p)))) (λ ns. octets_written as_path_type (segment_called s ns)) n at
+    each_called (λ p. segment_report (as_read (mapped (segment_of p) (decode as_path_type s p)))) (λ ns. octets_written as_path_type (segment_called s ns)) n at
 
 -- sflow4_extended, then sflow4_write, by the extended data type
 abbrev pub extended_called : List ℕ → List ℕ → Option (Value extended_data_type)
@@ -62,7 +63,7 @@ extended_called s ns =
 
 abbrev pub entries_called : List ℕ → ℕ → ℕ → List ℕ
 entries_called s n at =
-    each_called (λ p. extended_report (as_extended (mapped (extended_of p) (decode extended_data_type s p)))) (λ ns. octets_written extended_data_type (extended_called s ns)) n at
+    each_called (λ p. extended_report (as_read (mapped (extended_of p) (decode extended_data_type s p)))) (λ ns. octets_written extended_data_type (extended_called s ns)) n at
 
 -- ---- samples
 

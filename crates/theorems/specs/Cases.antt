@@ -15,9 +15,8 @@ use Rattle.engine.specs.Results.{EngineAnswer, engine_number, rule_named, rules_
 use Rattle.ledger.specs.declared.FlowEntry.{FlowEntry}
 use Rattle.ledger.specs.declared.Row.{Row}
 use Rattle.ledger.specs.Ledger.{TableEntered, free_row, entered}
-use Rattle.theorems.specs.Inputs.{
-use Rattle.std.specs.Prelude.{Result, Ok, Err}
 use Rattle.sflow.specs.declared.Refused.{Refused}
+use Rattle.theorems.specs.Inputs.{
   no_samples,
   one_sample,
   counter_sample,
@@ -46,8 +45,8 @@ pub data Case : Type 0 where
 -- ---- 1 to 6 and 8: the reader
 
 abbrev Refuses : Result Head Refused → ℕ → ℕ → Type 0
-Refuses (Found h) number place = ⊥
-Refuses (Refused why p) number place = (refusal_number why ≡ number) × (p ≡ place)
+Refuses (Ok h) number place = ⊥
+Refuses (Err r) number place = (refusal_number r.why ≡ number) × (r.at ≡ place)
 
 -- ---- 11: the writer
 
@@ -95,7 +94,7 @@ row_after x y = get_or (second x y).rows 0 free_row
 
 abbrev pub Holds : Case → Type 0
 Holds (refuses s number place) = Refuses (datagram_read s) number place
-Holds (accepts s h) = datagram_read s ≡ Found h
+Holds (accepts s h) = datagram_read s ≡ Ok h
 Holds (appends n number size) = ((after_appends n).number ≡ number) × ((after_appends n).size ≡ size)
 Holds (runs s number rules) = (check s ≡ accepted) × Gives (engine_of s flow_sample) number 0 rules
 Holds (breaks s number rule) = Breaks (check s) number rule × Gives (engine_of s flow_sample) number rule 0

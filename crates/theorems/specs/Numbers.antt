@@ -1,7 +1,7 @@
 -- Demand 1 in numbers: whatever an entry of a program in Rattle answers by its contract, its number, place, rule and values are document 01's, and so are the
 -- lent buffers, rows and tables where it refuses.
 use Rattle.std.specs.Prelude.{ℕ, ◌≤◌, ◌≡◌, ◌↔◌, Bool, List, [], ◌∷◌, length, drop, Result}
-use Rattle.std.proofs.Math.Option.{Option}
+use Rattle.std.proofs.Math.Option.{Option as Given}
 use Rattle.xdr.specs.Writes.{afterwards}
 use Rattle.sflow.specs.declared.Refusal.{Refusal}
 use Rattle.sflow.specs.Refusals.{refusal_number}
@@ -10,12 +10,8 @@ use Rattle.sflow.specs.Decode.{Decoded, found, refused, mapped, decode}
 use Rattle.sflow.specs.Datagram.{as_path_type, extended_data_type, sample_type}
 use Rattle.sflow.specs.Reading.{read_datagram}
 use Rattle.fields.specs.declared.address.Address.{Address}
-use Rattle.extended_data.specs.declared.ExtendedRead.{ExtendedRead}
-use Rattle.extended_data.specs.declared.SegmentRead.{SegmentRead}
-use Rattle.extended_data.specs.ExtendedData.{segment_of, as_segment, extended_of, as_extended}
-use Rattle.reader.specs.declared.sample.SampleRead.{SampleRead}
+use Rattle.extended_data.specs.ExtendedData.{segment_of, extended_of}
 use Rattle.reader.specs.declared.datagram.Cursor.{Cursor}
-use Rattle.reader.specs.declared.datagram.Step.{Step}
 use Rattle.reader.specs.Samples.{sample_of, as_sample}
 use Rattle.reader.specs.Datagrams.{datagram_of, as_head, datagram_read, head_at, step_at}
 use Rattle.form_writer.specs.declared.parts.WriteRefusal.{WriteRefusal}
@@ -40,10 +36,14 @@ use Rattle.ledger_calls.specs.EntryNumbers.{LentRowTold, EntryTold}
 use Rattle.rule_calls.specs.RuleSets.{check_report, engine_report, CheckTold, RunTold}
 use Rattle.line_calls.specs.ListedLines.{frame_report, written_report}
 use Rattle.line_calls.specs.LineNumbers.{FrameTold, RecordsTold, LinesTold}
-use Rattle.std.specs.Prelude.{Option, Some, None}
+use Rattle.std.specs.Prelude.{Option}
 use Rattle.reader.specs.declared.datagram.Head.{Head}
-use Rattle.std.specs.Prelude.{Result, Ok, Err}
+use Rattle.std.specs.Prelude.{Result}
 use Rattle.sflow.specs.declared.Refused.{Refused}
+use Rattle.sflow.specs.Decode.{as_read}
+use Rattle.reader.specs.declared.sample.Sample.{Sample}
+use Rattle.extended_data.specs.declared.Extended.{Extended}
+use Rattle.extended_data.specs.declared.Segment.{Segment}
 
 -- Each field says of an entry: whatever answer its contract allows is told so.
 pub record InNumbers : Type 1 where
@@ -56,17 +56,17 @@ pub record InNumbers : Type 1 where
   pub read : (s : List ℕ) (r : Result Head Refused) → r ≡ datagram_read s → head_report r ≡ decoded_report (λ h next. head_numbers h) (mapped datagram_of (read_datagram s))
   pub read_head : (s : List ℕ) (r : Result Head Refused) → r ≡ as_head (head_at s) → head_report r ≡ decoded_report (λ h next. head_numbers h) (head_at s)
   -- a step of the walk over its samples; a sample; an extended entry; a path segment
-  pub next_sample : (s : List ℕ) (c : Cursor) (r : Step) → r ≡ step_at s c → StepTold s c r
-  pub sample : (s : List ℕ) (at : ℕ) (r : SampleRead) → r ≡ as_sample at (mapped (sample_of at) (decode sample_type s at)) → sample_report s r ≡ sample_found s at
-  pub extended : (s : List ℕ) (at : ℕ) (r : ExtendedRead) → r ≡ as_extended (mapped (extended_of at) (decode extended_data_type s at))
+  pub next_sample : (s : List ℕ) (c : Cursor) (r : Result (Option (Sample × Cursor)) Refused) → r ≡ step_at s c → StepTold s c r
+  pub sample : (s : List ℕ) (at : ℕ) (r : Result (Sample × ℕ) Refused) → r ≡ as_sample at (mapped (sample_of at) (decode sample_type s at)) → sample_report s r ≡ sample_found s at
+  pub extended : (s : List ℕ) (at : ℕ) (r : Result (Extended × ℕ) Refused) → r ≡ as_read (mapped (extended_of at) (decode extended_data_type s at))
       → extended_report r ≡ decoded_report entry_numbers (mapped (extended_of at) (decode extended_data_type s at))
-  pub segment : (s : List ℕ) (at : ℕ) (r : SegmentRead) → r ≡ as_segment (mapped (segment_of at) (decode as_path_type s at))
+  pub segment : (s : List ℕ) (at : ℕ) (r : Result (Segment × ℕ) Refused) → r ≡ as_read (mapped (segment_of at) (decode as_path_type s at))
       → segment_report r ≡ decoded_report segment_numbers (mapped (segment_of at) (decode as_path_type s at))
   -- ---- the writer: a value alone 22, 20; start 21, 22; every append 21, 23, 22, 20, in these orders; a refusal leaves the buffer
-  pub form : (g : Form) (x : Option (Value g)) (d e : List ℕ) (r : Result ℕ WriteRefusal) → afterwards r e ≡ write_given g x d → WriteTold r d e (form_report g x (length d))
+  pub form : (g : Form) (x : Given (Value g)) (d e : List ℕ) (r : Result ℕ WriteRefusal) → afterwards r e ≡ write_given g x d → WriteTold r d e (form_report g x (length d))
   pub start : (limit : ℕ) (agent : Address) (sequence uptime : ℕ) (d e : List ℕ) (r : Result ℕ WriteRefusal) → afterwards r e ≡ started limit agent sequence uptime d
       → WriteTold r d e (start_report limit agent sequence uptime (length d))
-  pub append : (x : Option (Value sample_type)) (limit size : ℕ) (d e : List ℕ) (r : Result ℕ WriteRefusal) → afterwards r e ≡ appended x limit size d
+  pub append : (x : Given (Value sample_type)) (limit size : ℕ) (d e : List ℕ) (r : Result ℕ WriteRefusal) → afterwards r e ≡ appended x limit size d
       → WriteTold r d e (append_report x limit size d)
   -- ---- the ledger: 40, 41, 42 of a table, 43, 41, 42 of a lent row, each exactly where document 01 gives it; a refusal changes no row
   pub table : (rows : List Row) (x : FlowEntry) (r : TableEntered) → r ≡ entered rows x → EntryTold rows x (entry_number r.answer) r.rows

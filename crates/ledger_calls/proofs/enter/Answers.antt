@@ -1,5 +1,4 @@
 use Rattle.ledger_calls.proofs.LedgerTables.{table_short, table_long}
-use Rattle.std.proofs.Common.{sym, ◌∙◌}
 use Rattle.ledger_calls.proofs.enter.Goals as goal
 
 pub returns-then-table-lt704 : goal.returns-then-table-lt704
