@@ -6,7 +6,6 @@ use packet::Attributes;
 use reader::sample::SampleValues;
 use std::io;
 use std::io::{Read, Write};
-use vector_io::RecordRead;
 
 fn attributes<W: Write>(out: &mut W, a: Attributes) -> io::Result<()> {
     vector_io::line(
@@ -48,7 +47,7 @@ fn vector<W: Write>(out: &mut W, s: &[u8]) -> io::Result<()> {
 // Reads one vector and answers whether there was one.
 fn turn<R: Read, W: Write>(input: &mut R, out: &mut W) -> io::Result<bool> {
     let mut room = vector_io::room();
-    let RecordRead::Record(n) = vector_io::read_record(input, &mut room) else {
+    let Some(n) = vector_io::read_record(input, &mut room) else {
         return Ok(false);
     };
     vector(out, vector_io::part(&room, 0, n))?;

@@ -4,7 +4,6 @@
 
 use std::io;
 use std::io::{Read, Write};
-use vector_io::RecordRead;
 
 fn rule_set<W: Write>(out: &mut W, s: &[u8]) -> io::Result<()> {
     match check_rules::check(s) {
@@ -16,7 +15,7 @@ fn rule_set<W: Write>(out: &mut W, s: &[u8]) -> io::Result<()> {
 // Reads one rule set and answers whether there was one.
 fn turn<R: Read, W: Write>(input: &mut R, out: &mut W) -> io::Result<bool> {
     let mut room = vector_io::room();
-    let RecordRead::Record(n) = vector_io::read_record(input, &mut room) else {
+    let Some(n) = vector_io::read_record(input, &mut room) else {
         return Ok(false);
     };
     rule_set(out, vector_io::part(&room, 0, n))?;

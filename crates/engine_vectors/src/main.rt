@@ -6,7 +6,6 @@
 use engine::{ATTRIBUTES, EngineRefusal, FlowKey};
 use std::io;
 use std::io::{Read, Write};
-use vector_io::RecordRead;
 
 // Whether a number is an attribute's.
 fn known(attribute: usize) -> bool {
@@ -42,10 +41,10 @@ fn pair<W: Write>(out: &mut W, s: &[u8], x: &[u8]) -> io::Result<()> {
 fn turn<R: Read, W: Write>(input: &mut R, out: &mut W) -> io::Result<bool> {
     let mut rules = vector_io::room();
     let mut sample = vector_io::room();
-    let RecordRead::Record(n) = vector_io::read_record(input, &mut rules) else {
+    let Some(n) = vector_io::read_record(input, &mut rules) else {
         return Ok(false);
     };
-    let RecordRead::Record(m) = vector_io::read_record(input, &mut sample) else {
+    let Some(m) = vector_io::read_record(input, &mut sample) else {
         return Ok(false);
     };
     pair(

@@ -4,7 +4,6 @@
 
 use std::io;
 use std::io::{Read, Write};
-use vector_io::RecordRead;
 
 // So many words from a place on.
 fn words<W: Write>(out: &mut W, s: &[u8], count: u64, first: u64) -> io::Result<()> {
@@ -127,7 +126,7 @@ fn datagram<W: Write>(out: &mut W, s: &[u8]) -> io::Result<()> {
 // Reads one datagram and answers whether there was one.
 fn turn<R: Read, W: Write>(input: &mut R, out: &mut W) -> io::Result<bool> {
     let mut room = vector_io::room();
-    let RecordRead::Record(n) = vector_io::read_record(input, &mut room) else {
+    let Some(n) = vector_io::read_record(input, &mut room) else {
         return Ok(false);
     };
     datagram(out, vector_io::part(&room, 0, n))?;

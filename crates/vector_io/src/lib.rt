@@ -17,33 +17,27 @@ pub fn room() -> [u8; 131072]
     [0; 131072]
 }
 
-// A record's length; none at the end of the input, or where the record is cut or has no room.
-#[derive(Drop)]
-pub enum RecordRead {
-    Record(usize),
-    NoRecord,
-}
-
-// Reads the next record of the input, which stands behind its length in four octets, to the front of a buffer. A read that fails ends the input.
-pub fn read_record<R: Read>(input: &mut R, buffer: &mut [u8]) -> RecordRead
+// Reads the next record of the input, which stands behind its length in four octets, to the front of a buffer: the record's length; none at the end
+// of the input, or where the record is cut or has no room. A read that fails ends the input.
+pub fn read_record<R: Read>(input: &mut R, buffer: &mut [u8]) -> Option<usize>
     ensures fits { ReadInto buffer.old result buffer.new }
     ensures taken { TakenFrom (R.remaining input.old) result buffer.new (R.remaining input.new) }
 {
     let mut prefix = [0u8; 4];
     if input.read_exact(&mut prefix).is_err() {
-        return RecordRead::NoRecord;
+        return None;
     }
     let Ok((length, _)) = xdr::read_word(&prefix, 0) else {
-        return RecordRead::NoRecord;
+        return None;
     };
     let n = length as usize;
     if buffer.len() < n {
-        return RecordRead::NoRecord;
+        return None;
     }
     if input.read_exact(&mut buffer[..n]).is_err() {
-        return RecordRead::NoRecord;
+        return None;
     }
-    RecordRead::Record(n)
+    Some(n)
 }
 
 // The octets between two places, as far as they are there.

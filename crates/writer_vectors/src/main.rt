@@ -11,7 +11,6 @@ use reader::datagram::Head;
 use reader::sample::{CountersSample, FlowSample, Sample, SampleValues};
 use std::io;
 use std::io::{Read, Write};
-use vector_io::RecordRead;
 
 // What a turn met: the end of the input; or how many datagrams it wrote again with the same octets and with others, one at most.
 #[derive(Drop)]
@@ -217,7 +216,7 @@ fn turn<R: Read>(input: &mut R) -> Outcome
     ensures { result.equal + result.different ≤ 1 }
 {
     let mut room = vector_io::room();
-    let RecordRead::Record(n) = vector_io::read_record(input, &mut room) else {
+    let Some(n) = vector_io::read_record(input, &mut room) else {
         return Outcome {
             ended: true,
             equal: 0,
