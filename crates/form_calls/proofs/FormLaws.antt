@@ -13,7 +13,7 @@ use Rattle.form_writer.specs.declared.parts.WriteRefusal.{WriteRefusal}
 use Rattle.writer.specs.Datagrams.{appended}
 
 -- no octets are no sample
-pub nothing_given : value_in sample_type [] ≡ none
+nothing_given : value_in sample_type [] ≡ none
 unfolding value_in decode word_at
 nothing_given = refl
 

@@ -2,7 +2,7 @@
 use Prim.Native.Nat.{ℕ, suc, ◌+◌, ◌<◌}
 use native.Mathlib.Numerals.{add-one}
 use mathlib.Core.Path.{◌≡◌, refl, ap}
-use mathlib.Core.Logic.{inl, inr, ⊎_elim}
+use mathlib.Core.Logic.{inl, inr}
 use mathlib.Core.Bool.{Bool, true, false, cond, ◌||◌}
 use mathlib.Core.List.{List, [], ◌∷◌}
 use lib.ListN.{length, get_or, drop}
@@ -13,10 +13,6 @@ use Rattle.sflow.specs.Grammar.{Fits, Each, each_fits}
 use Rattle.sflow.proofs.Allows.{fits_exactly}
 use Rattle.counter_data.specs.CounterBodies.{words_and_hypers}
 use Rattle.sample_writer.specs.CounterValues.{WordOrHyper}
-
--- a width of a word or a hyper that is not a hyper's is a word's
-pub word_width : (w : ℕ) → WordOrHyper w → (w ≡ 8 → ⊥) → w ≡ 4
-word_width w k n = ⊎_elim (λ e. e) (λ e. absurd (n e)) k
 
 -- ---- widths
 

@@ -3,7 +3,7 @@
 // same octets both times, and how many did not. The datagrams come from the second program in conformance/.
 #![tactic(auto)]
 
-ghost use Rattle.std.specs.Prelude.{◌≡◌, ◌+◌, ◌≤◌, length};
+ghost use Rattle.std.specs.Prelude.{◌≡◌, length};
 
 use fields::words::Entries;
 use packet_data::{PacketData, SampledHeader};
@@ -12,12 +12,13 @@ use reader::sample::{CountersSample, FlowSample, Sample, SampleValues};
 use std::io;
 use std::io::{Read, Write};
 
-// What a turn met: the end of the input; or how many datagrams it wrote again with the same octets and with others, one at most.
-#[derive(Drop)]
-struct Outcome {
-    ended: bool,
-    equal: u64,
-    different: u64,
+// What a turn met: the end of the input, or a datagram that is not accepted, or one that was written again with the same octets or with others.
+#[derive(Clone, Copy)]
+enum Outcome {
+    Ended,
+    Refused,
+    Equal,
+    Different,
 }
 
 // The functions that append answer the new length, or none where the writer refused.
@@ -187,41 +188,22 @@ fn again(s: &[u8], head: Head, by_values: bool) -> bool {
     length == s.len() && check::same(vector_io::part(&out, 0, length), s)
 }
 
-fn datagram(s: &[u8]) -> Outcome
-    ensures { result.equal + result.different ≤ 1 }
-{
+fn datagram(s: &[u8]) -> Outcome {
     let Ok(head) = reader::datagram::read(s) else {
-        return Outcome {
-            ended: false,
-            equal: 0,
-            different: 0,
-        };
+        return Outcome::Refused;
     };
     if again(s, head, false) && again(s, head, true) {
-        return Outcome {
-            ended: false,
-            equal: 1,
-            different: 0,
-        };
-    }
-    Outcome {
-        ended: false,
-        equal: 0,
-        different: 1,
+        Outcome::Equal
+    } else {
+        Outcome::Different
     }
 }
 
 // Reads one datagram and writes it again.
-fn turn<R: Read>(input: &mut R) -> Outcome
-    ensures { result.equal + result.different ≤ 1 }
-{
+fn turn<R: Read>(input: &mut R) -> Outcome {
     let mut room = vector_io::room();
     let Some(n) = vector_io::read_record(input, &mut room) else {
-        return Outcome {
-            ended: true,
-            equal: 0,
-            different: 0,
-        };
+        return Outcome::Ended;
     };
     datagram(vector_io::part(&room, 0, n))
 }
@@ -238,12 +220,12 @@ fn main(rt: HostRuntime) -> io::Result<()> {
     let mut equal = 0u64;
     let mut different = 0u64;
     for _ in 0..u64::MAX {
-        let t = turn(&mut input);
-        if t.ended {
-            return report(&mut out, equal + different, equal, different);
+        match turn(&mut input) {
+            Outcome::Ended => return report(&mut out, equal + different, equal, different),
+            Outcome::Refused => {}
+            Outcome::Equal => equal += 1,
+            Outcome::Different => different += 1,
         }
-        equal += t.equal;
-        different += t.different;
     }
     Ok(())
 }

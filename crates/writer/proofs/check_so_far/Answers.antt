@@ -1,7 +1,5 @@
-use lib.ListN.{length, take, length-take}
-use Prim.Native.Nat.{◌≤◌}
-use Rattle.writer.proofs.SoFar.{so_far_limit, so_far_long, so_far_refused, so_far_found, head_at, head_few}
-use Rattle.writer.proofs.Limits.{limit_allowed_is}
+use lib.ListN.{take}
+use Rattle.writer.proofs.SoFar.{so_far_limit, so_far_long, so_far_refused, so_far_found, head_few}
 use Rattle.sflow.proofs.Slices.{octets_take}
 use mathlib.Core.Path.{sym, ◌∙◌}
 use native.Mathlib.Omega.{arith}
@@ -10,18 +8,10 @@ use Rattle.writer.proofs.check_so_far.Goals as goal
 pub returns-then-limit-length : goal.returns-then-limit-length
 returns-then-limit-length c = so_far_long _ _ _ (sym c.limit_allowed.ensures ∙ c.if-not-limit_allowed.false) c.if-limit-length.true
 
-pub slice_bounds-read-end : goal.slice_bounds-read-end
-slice_bounds-read-end c =
-    let h : c.args.limit ≤ length c.args.d.now = (limit_allowed_is _ _ (sym c.limit_allowed.ensures ∙ c.if-not-limit_allowed.false)).inside in
-    rw length-take (omega arith)
-
 pub returns-in_default : goal.returns-in_default
 returns-in_default c =
     so_far_refused _ _ _ (sym c.limit_allowed.ensures ∙ c.if-not-limit_allowed.false) c.if-limit-length.false _ _
     (sym c.read.ensures ∙ c.in_default.is)
-
-pub overflow_sub-result : goal.overflow_sub-result
-overflow_sub-result c = head_at _ _ (sym c.read.ensures ∙ c.in-Ok.is)
 
 pub overflow_add-result : goal.overflow_add-result
 overflow_add-result c =
