@@ -23,7 +23,12 @@ pub fn read_address(s: &[u8], at: usize) -> Result<(Address, usize), Refused>
     let (octets, next) = match kind {
         1 => {
             let (a, next) = xdr::read_word(s, place)?;
-            let octets = Quad { a, b: 0, c: 0, d: 0 };
+            let octets = Quad {
+                a,
+                b: 0,
+                c: 0,
+                d: 0,
+            };
             (octets, next)
         }
         2 => xdr::read_quad(s, place)?,

@@ -109,11 +109,11 @@ end_told d at t bad r e h = lines_told 123 d at (end_lines t bad) r e h
 
 abbrev found_rank : Result Head Refused → ℕ
 found_rank (Ok h) = 0
-found_rank  (Err e) = 1
+found_rank (Err e) = 1
 
 abbrev samples_in : Result Head Refused → ℕ
 samples_in (Ok h) = h.samples.count
-samples_in  (Err e) = 0
+samples_in (Err e) = 0
 
 module _ (d : List ℕ) (at n : ℕ) (s : List ℕ) where
   abbrev RecordOf : Afterwards (Option Listed) → Type 0

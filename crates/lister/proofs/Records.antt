@@ -192,7 +192,7 @@ step_split d s p o = on_frame_is (frame_of (drop p.at s)) refl
 
         by : (a : Result Head Refused) → datagram_read (datagram_in (drop p.at s) n) ≡ a → Splits s p (behind p (4 + n) (Some (answer_to a out)))
         by (Ok h) q = record { datagrams = datagram_in (drop p.at s) n ∷ []; fit = fit_is; records_are = records; state_is = state (Ok h) q }
-        by  (Err e) q =
+        by (Err e) q =
             record { datagrams = datagram_in (drop p.at s) n ∷ []; fit = fit_is; records_are = records; state_is = state (Err e) q }
 
     lines : ℕ → List ℕ

@@ -78,8 +78,19 @@ fn read_header(s: &[u8], at: usize) -> Result<(PacketData, usize), Refused>
 fn read_ipv4(s: &[u8], at: usize) -> Result<(PacketData, usize), Refused>
     ensures { result ≡ as_read (mapped ipv4_of (decode sampled_ipv4 s.now at)) }
 {
-    let ([length, protocol, src_ip, dst_ip, src_port, dst_port, tcp_flags, tos], next) =
-        fields::words::read_words::<8>(s, at)?;
+    let (
+        [
+            length,
+            protocol,
+            src_ip,
+            dst_ip,
+            src_port,
+            dst_port,
+            tcp_flags,
+            tos,
+        ],
+        next,
+    ) = fields::words::read_words::<8>(s, at)?;
     let packet = SampledIpv4 {
         length,
         protocol,
@@ -99,8 +110,9 @@ fn read_ipv6(s: &[u8], at: usize) -> Result<(PacketData, usize), Refused>
     let ([length, protocol], src_at) = fields::words::read_words::<2>(s, at)?;
     let (src_ip, dst_at) = xdr::read_quad(s, src_at)?;
     let (dst_ip, ports_at) = xdr::read_quad(s, dst_at)?;
-    let ([src_port, dst_port, tcp_flags, priority], next) =
-        fields::words::read_words::<4>(s, ports_at)?;
+    let ([src_port, dst_port, tcp_flags, priority], next) = fields::words::read_words::<4>(
+        s, ports_at,
+    )?;
     let packet = SampledIpv6 {
         length,
         protocol,

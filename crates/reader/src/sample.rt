@@ -55,8 +55,18 @@ pub struct Sample {
 fn read_flow_words(s: &[u8], at: usize) -> Result<(FlowWords, usize), Refused>
     ensures { result ≡ as_read (mapped flow_words_of (decode (fixed flow_words) s.now at)) }
 {
-    let ([sequence_number, source_id, sampling_rate, sample_pool, drops, input, output], next) =
-        fields::words::read_words::<7>(s, at)?;
+    let (
+        [
+            sequence_number,
+            source_id,
+            sampling_rate,
+            sample_pool,
+            drops,
+            input,
+            output,
+        ],
+        next,
+    ) = fields::words::read_words::<7>(s, at)?;
     let words = FlowWords {
         sequence_number,
         source_id,

@@ -91,7 +91,7 @@ no_room_at_all d at n s h = go (datagram_read s) refl
   where
     go : (a : Result Head Refused) → datagram_read s ≡ a → afterwards None d ≡ list_record d at n s
     go (Ok g) q = no_room d at n s (Ok g) q (omega arith)
-    go  (Err e) q = no_room d at n s (Err e) q h
+    go (Err e) q = no_room d at n s (Err e) q h
 
 pub lists_refused : (d e : List ℕ) (at n r : ℕ) (s : List ℕ) (why : Refusal) (p num : ℕ) → datagram_read s ≡ Err (refused_at why p) → num ≡ refusal_number why
     → Puts d at (refused_line n num p) r e → at + 164 ≤ length d → afterwards (Some (RefusedRecord r)) e ≡ list_record d at n s

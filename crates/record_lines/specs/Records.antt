@@ -21,12 +21,12 @@ record_lines number s = lines_of number s (datagram_read s)
 -- room that is enough for the lines, and that is asked for
 abbrev pub room_of : Result Head Refused → ℕ
 room_of (Ok h) = 164 + 136 * h.samples.count
-room_of  (Err e) = 164
+room_of (Err e) = 164
 
 -- what is answered where the lines end at an offset
 abbrev pub answer_to : Result Head Refused → ℕ → Listed
 answer_to (Ok h) next = Accepted next h.samples.count
-answer_to  (Err e) next = RefusedRecord next
+answer_to (Err e) next = RefusedRecord next
 
 -- a record's lines put into an output at an offset, or the output as it was
 unfoldable pub list_record : List ℕ → ℕ → ℕ → List ℕ → Afterwards (Option Listed)

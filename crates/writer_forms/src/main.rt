@@ -4,16 +4,21 @@
 
 use extended_data::{Router, Switch};
 use fields::address::Address;
-use sflow::Refused;
 use form_writer::parts::WriteRefusal;
 use packet_data::{SampledIpv4, SampledIpv6};
 use reader::sample::FlowWords;
+use sflow::Refused;
 use std::io;
 use std::io::Write;
 use xdr::Quad;
 
 // Whether a buffer begins with the wanted octets, and so many were written and read.
-fn agrees(d: &[u8], answer: Result<usize, WriteRefusal>, passed: Result<usize, Refused>, want: &[u8]) -> bool {
+fn agrees(
+    d: &[u8],
+    answer: Result<usize, WriteRefusal>,
+    passed: Result<usize, Refused>,
+    want: &[u8],
+) -> bool {
     let Ok(length) = answer else {
         return false;
     };

@@ -121,7 +121,7 @@ stored_padded d at xs h =
 -- The same where the part behind the string, up to the padding's end, is filled with zeros.
 pub filled_padded : (d : List ℕ) (at : ℕ) (xs : List ℕ) → at + padded (length xs) ≤ length d
     → let k = at + padded (length xs) - (at + length xs) in
-      put_mid (at + length xs) k (stored d at xs) (replicate (length (mid_of (at + length xs) k (stored d at xs))) 0)
+    put_mid (at + length xs) k (stored d at xs) (replicate (length (mid_of (at + length xs) k (stored d at xs))) 0)
     ≡ stored d at (padded_octets xs)
 filled_padded d at xs h =
     let e : List ℕ = stored d at xs in

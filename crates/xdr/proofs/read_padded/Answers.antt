@@ -9,9 +9,10 @@ use Rattle.xdr.proofs.read_padded.Goals.{then-s-at-via-then-s-at, then-s-at-via-
 
 pub returns-then-s-at : goal.returns-then-s-at
 returns-then-s-at c =
-    elim c.then-s-at.branch
-    [ then-s-at-via-then-s-at w ↦ sym (padded_missing _ _ _ (omega arith))
-    | then-s-at-via-else-s-at+then-s-at-2 w ↦ sym (padded_missing _ _ _ (omega arith)) ]
+    elim c.then-s-at.branch [
+      | then-s-at-via-then-s-at w ↦ sym (padded_missing _ _ _ (omega arith))
+      | then-s-at-via-else-s-at+then-s-at-2 w ↦ sym (padded_missing _ _ _ (omega arith))
+    ]
 
 pub returns-then-s-p-ne0 : goal.returns-then-s-p-ne0
 returns-then-s-p-ne0 c =

@@ -6,9 +6,10 @@ use Rattle.xdr.proofs.read_quad.Goals.{then-s-at-via-then-s-at, then-s-at-via-el
 
 pub returns-then-s-at : goal.returns-then-s-at
 returns-then-s-at c =
-    elim c.then-s-at.branch
-    [ then-s-at-via-then-s-at w ↦ sym (quad_missing _ _ (omega arith))
-    | then-s-at-via-else-s-at+then-s-at-lt16 w ↦ sym (quad_missing _ _ (omega arith)) ]
+    elim c.then-s-at.branch [
+      | then-s-at-via-then-s-at w ↦ sym (quad_missing _ _ (omega arith))
+      | then-s-at-via-else-s-at+then-s-at-lt16 w ↦ sym (quad_missing _ _ (omega arith))
+    ]
 
 pub returns : goal.returns
 returns c =

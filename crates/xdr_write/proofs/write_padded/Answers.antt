@@ -6,9 +6,10 @@ use Rattle.xdr_write.proofs.write_padded.Goals.{then-d-at-via-then-d-at, then-d-
 
 pub returns-then-d-at : goal.returns-then-d-at
 returns-then-d-at c =
-    elim c.then-d-at.branch
-    [ then-d-at-via-then-d-at w ↦ sym (write_full_of _ _ _ _ (padded_length c.args.xs.now) (omega arith))
-    | then-d-at-via-else-d-at+then-d-at-2 w ↦ sym (write_full_of _ _ _ _ (padded_length c.args.xs.now) (omega arith)) ]
+    elim c.then-d-at.branch [
+      | then-d-at-via-then-d-at w ↦ sym (write_full_of _ _ _ _ (padded_length c.args.xs.now) (omega arith))
+      | then-d-at-via-else-d-at+then-d-at-2 w ↦ sym (write_full_of _ _ _ _ (padded_length c.args.xs.now) (omega arith))
+    ]
 
 pub returns : goal.returns
 returns c =

@@ -33,17 +33,18 @@ returns-in_default c =
 
 pub returns : goal.returns
 returns c =
-    elim c.match-kind.branch
-    [ in-1+in_ok-a-in-1 w ↦
-        rw w.next-is
-        (sym
-        (ap as_read
-        (address_v4 _ _ _ _ _ _ (sym c.read_word.ensures ∙ c.in_ok-kind.was) w.in-1.is
-        (sym w.read_word-in-1.ensures ∙ w.in_ok-a-in-1.was))))
-    | in-2+in_ok-octets-in-2 w ↦
-        rw w.next-is
-        (sym
-        (ap as_read
-        (address_v6 _ _ _ _ _ _ (search rules) (search rules) (search rules) (search rules)
-        (sym c.read_word.ensures ∙ c.in_ok-kind.was) w.in-2.is
-        (sym w.read_quad.ensures ∙ w.in_ok-octets-in-2.was)))) ]
+    elim c.match-kind.branch [
+      | in-1+in_ok-a-in-1 w ↦
+          rw w.next-is
+          (sym
+          (ap as_read
+          (address_v4 _ _ _ _ _ _ (sym c.read_word.ensures ∙ c.in_ok-kind.was) w.in-1.is
+          (sym w.read_word-in-1.ensures ∙ w.in_ok-a-in-1.was))))
+      | in-2+in_ok-octets-in-2 w ↦
+          rw w.next-is
+          (sym
+          (ap as_read
+          (address_v6 _ _ _ _ _ _ (search rules) (search rules) (search rules) (search rules)
+          (sym c.read_word.ensures ∙ c.in_ok-kind.was) w.in-2.is
+          (sym w.read_quad.ensures ∙ w.in_ok-octets-in-2.was))))
+    ]

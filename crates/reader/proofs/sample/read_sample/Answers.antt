@@ -35,28 +35,30 @@ returns-in_default c =
 
 pub overflow_sub-sample : goal.overflow_sub-sample
 overflow_sub-sample c =
-    elim c.match-kind.branch
-    [ in-1+in_ok-flow-in-1 w ↦
-        rw w.values-is
-        (sample_flow_behind _ _ _ _ (sym c.read_word.ensures ∙ c.in_ok-kind.was) w.in-1.is _ _
-        (sym w.read_flow.ensures ∙ w.in_ok-flow-in-1.was))
-    | in-2+in_ok-counters-in-2 w ↦
-        rw w.values-is
-        (sample_counters_behind _ _ _ _ (sym c.read_word.ensures ∙ c.in_ok-kind.was) w.in-2.is _ _
-        (sym w.read_counters.ensures ∙ w.in_ok-counters-in-2.was)) ]
+    elim c.match-kind.branch [
+      | in-1+in_ok-flow-in-1 w ↦
+          rw w.values-is
+          (sample_flow_behind _ _ _ _ (sym c.read_word.ensures ∙ c.in_ok-kind.was) w.in-1.is _ _
+          (sym w.read_flow.ensures ∙ w.in_ok-flow-in-1.was))
+      | in-2+in_ok-counters-in-2 w ↦
+          rw w.values-is
+          (sample_counters_behind _ _ _ _ (sym c.read_word.ensures ∙ c.in_ok-kind.was) w.in-2.is _ _
+          (sym w.read_counters.ensures ∙ w.in_ok-counters-in-2.was))
+    ]
 
 pub returns : goal.returns
 returns c =
-    elim c.match-kind.branch
-    [ in-1+in_ok-flow-in-1 w ↦
-        rw w.values-is
-        (sym
-        (ap (as_sample c.args.at)
-        (sample_flow _ _ _ _ (sym c.read_word.ensures ∙ c.in_ok-kind.was) w.in-1.is _ _
-        (sym w.read_flow.ensures ∙ w.in_ok-flow-in-1.was))))
-    | in-2+in_ok-counters-in-2 w ↦
-        rw w.values-is
-        (sym
-        (ap (as_sample c.args.at)
-        (sample_counters _ _ _ _ (sym c.read_word.ensures ∙ c.in_ok-kind.was) w.in-2.is _ _
-        (sym w.read_counters.ensures ∙ w.in_ok-counters-in-2.was)))) ]
+    elim c.match-kind.branch [
+      | in-1+in_ok-flow-in-1 w ↦
+          rw w.values-is
+          (sym
+          (ap (as_sample c.args.at)
+          (sample_flow _ _ _ _ (sym c.read_word.ensures ∙ c.in_ok-kind.was) w.in-1.is _ _
+          (sym w.read_flow.ensures ∙ w.in_ok-flow-in-1.was))))
+      | in-2+in_ok-counters-in-2 w ↦
+          rw w.values-is
+          (sym
+          (ap (as_sample c.args.at)
+          (sample_counters _ _ _ _ (sym c.read_word.ensures ∙ c.in_ok-kind.was) w.in-2.is _ _
+          (sym w.read_counters.ensures ∙ w.in_ok-counters-in-2.was))))
+    ]
