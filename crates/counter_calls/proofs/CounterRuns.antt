@@ -1,5 +1,5 @@
 -- Counters put into an array one behind the other. Assumes nothing.
-use Prim.Native.Nat.{ℕ, zero, suc, ◌+◌, ◌-◌, ◌≤◌, ◌<◌}
+use Prim.Native.Nat.{ℕ, zero, suc, ◌+◌, ◌-◌, ◌*◌, ◌≤◌, ◌<◌}
 use native.Mathlib.Nat.{not-suc-le-zero, le_of_suc-le-suc, add-zero, sub-zero, add_assoc}
 use native.Mathlib.Omega.{arith}
 use mathlib.Core.Path.{◌≡◌, refl, ap, sym, subst, ◌∙◌}
@@ -58,6 +58,11 @@ words_step s d e at count n i v next h r p =
     rw (p, k, r.value_is, r.next_is, ← add_assoc n i 1) (behind_both (n + i) (number_at s at 4 ∷ []) rest d)
 
 -- ---- runs
+
+-- so many words take four octets each
+pub words_width : (n : ℕ) → total_width (replicate n 4) ≡ 4 * n
+words_width zero = refl
+words_width (suc n) = let rest = words_width n in omega arith
 
 -- as many numbers as widths
 pub numbers_count : (s : List ℕ) (at : ℕ) (ws : List ℕ) → length (numbers_at s at ws) ≡ length ws

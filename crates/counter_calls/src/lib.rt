@@ -1,11 +1,11 @@
 #![tactic(auto)]
 // Every counter of a body read straight into a lent array: how many they are, then the counters, then zeros up to 38 numbers. The counters of a version
 // lie at fixed offsets: each function reads them in the part of the octets that they take.
-ghost use Rattle.std.specs.Prelude.{◌+◌, ◌-◌, ◌*◌, ◌≤◌, ◌≡◌, [], ◌∷◌, length, replicate};
+ghost use Rattle.std.specs.Prelude.{◌+◌, ◌-◌, ◌*◌, ◌≤◌, ◌≡◌, [], ◌∷◌, ◌++◌, length, replicate};
 ghost use Rattle.xdr.specs.Items.{total_width, numbers_at};
 ghost use Rattle.sflow.specs.Decode.{decode};
 ghost use Rattle.sflow.specs.Grammar.{chosen};
-ghost use Rattle.sflow.specs.Datagram.{counters_versions, counters_type, if_counters, ethernet_counters, tokenring_counters, vg_counters, vlan_counters};
+ghost use Rattle.sflow.specs.Datagram.{counters_versions, counters_type, if_counters, vg_counters, vlan_counters};
 ghost use Rattle.counter_data.specs.CounterBodies.{counters_found};
 ghost use Rattle.numbers.specs.Reports.{filled, filled_behind};
 ghost use Rattle.counter_calls.specs.CounterReports.{value_numbers};
@@ -61,24 +61,14 @@ fn put_interface(s: &[u8], at: usize, out: &mut [u64])
     put_words(part, 64, 6, 14, out);
 }
 
-// Puts Ethernet counters.
-fn put_ethernet(s: &[u8], at: usize, out: &mut [u64])
-    requires { at + 140 ≤ length s.now }
-    ensures { out.new ≡ filled_behind 1 (numbers_at s.now at ethernet_counters) out.old }
+// Puts the counters of a kind that has so many words behind those of every interface: Ethernet and token ring.
+fn put_with_words(s: &[u8], at: usize, count: usize, out: &mut [u64])
+    requires { (at + 88 + 4 * count ≤ length s.now) × (count ≤ 18) }
+    ensures { out.new ≡ filled_behind 1 (numbers_at s.now at (if_counters ++ replicate count 4)) out.old }
 {
     put_interface(s, at, out);
-    let part = &s[at + 88..at + 140];
-    put_words(part, 0, 13, 20, out);
-}
-
-// Puts token ring counters.
-fn put_tokenring(s: &[u8], at: usize, out: &mut [u64])
-    requires { at + 160 ≤ length s.now }
-    ensures { out.new ≡ filled_behind 1 (numbers_at s.now at tokenring_counters) out.old }
-{
-    put_interface(s, at, out);
-    let part = &s[at + 88..at + 160];
-    put_words(part, 0, 18, 20, out);
+    let part = &s[at + 88..at + 88 + 4 * count];
+    put_words(part, 0, count, 20, out);
 }
 
 // Puts the first eight counters of a 100VG interface, those of what came in.
@@ -136,8 +126,8 @@ fn put_version(s: &[u8], at: usize, version: u32, out: &mut [u64])
 {
     match version {
         1 | 4 | 6 => put_interface(s, at, out),
-        2 => put_ethernet(s, at, out),
-        3 => put_tokenring(s, at, out),
+        2 => put_with_words(s, at, 13, out),
+        3 => put_with_words(s, at, 18, out),
         5 => put_vg(s, at, out),
         7 => put_vlan(s, at, out),
         _ => return,

@@ -10,7 +10,8 @@ ghost use Rattle.counter_data.specs.CounterBodies.{counter_body_of};
 
 use sflow::{Refusal, Refused};
 
-// A counters version, 1 to 7, and the offset of the first counter.
+// A counters version, 1 to 7, and the offset of the first counter. The version stays the RFC's number: the C interface gives it, and the writer answers
+// for any.
 #[derive(Clone, Copy)]
 pub struct CounterBody {
     pub version: u32,

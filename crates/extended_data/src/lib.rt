@@ -36,7 +36,8 @@ pub struct Router {
     pub dst_mask: u32,
 }
 
-// A path segment: 1 for a set or 2 for a sequence, and its words, the numbers of autonomous systems.
+// A path segment: 1 for a set or 2 for a sequence, and its words, the numbers of autonomous systems. The type stays the RFC's number: the C interface
+// gives it and takes it back as one.
 #[derive(Clone, Copy)]
 pub struct Segment {
     pub kind: u32,
@@ -60,6 +61,7 @@ pub struct User {
     pub dst_user: Text,
 }
 
+// The direction stays the RFC's number, as a segment's type does.
 #[derive(Clone, Copy)]
 pub struct Url {
     pub direction: u32,

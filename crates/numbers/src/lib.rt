@@ -29,5 +29,5 @@ pub fn refuse(refused: Refused, out: &mut [u64]) -> u32
     ensures { afterwards result out.new ≡ tell (refusal_report refused.why refused.at) out.old }
 {
     fill(out, &[refused.at as u64]);
-    sflow::refusal_number(refused.why)
+    u32::from(refused.why)
 }

@@ -333,7 +333,7 @@ pub fn list_record(d: &mut [u8], at: usize, index: u64, s: &[u8]) -> Option<List
     }
     match reader::datagram::read(s) {
         Err(refused) => {
-            let n = sflow::refusal_number(refused.why);
+            let n = u32::from(refused.why);
             Some(Listed::Refused(refused_line(d, at, index, n, refused.at)))
         }
         Ok(head) => {

@@ -69,24 +69,26 @@ impl From<Unpadded> for Refused {
 }
 
 // The number of a refusal.
-pub fn refusal_number(why: Refusal) -> u32
-    ensures { result ≡ refusal_number why }
-{
-    match why {
-        Refusal::CutItem => 1,
-        Refusal::CutString => 1,
-        Refusal::Version => 2,
-        Refusal::AddressType => 3,
-        Refusal::SampleType => 4,
-        Refusal::PacketDataType => 5,
-        Refusal::HeaderProtocol => 6,
-        Refusal::HeaderLength => 7,
-        Refusal::ExtendedDataType => 8,
-        Refusal::SegmentType => 9,
-        Refusal::UrlDirection => 10,
-        Refusal::CountersVersion => 11,
-        Refusal::Padding => 12,
-        Refusal::Trailing => 13,
-        Refusal::TooLong => 14,
+impl From<Refusal> for u32 {
+    ghost from_gives = { λ why n. n ≡ refusal_number why };
+
+    fn from(why: Refusal) -> u32 {
+        match why {
+            Refusal::CutItem => 1,
+            Refusal::CutString => 1,
+            Refusal::Version => 2,
+            Refusal::AddressType => 3,
+            Refusal::SampleType => 4,
+            Refusal::PacketDataType => 5,
+            Refusal::HeaderProtocol => 6,
+            Refusal::HeaderLength => 7,
+            Refusal::ExtendedDataType => 8,
+            Refusal::SegmentType => 9,
+            Refusal::UrlDirection => 10,
+            Refusal::CountersVersion => 11,
+            Refusal::Padding => 12,
+            Refusal::Trailing => 13,
+            Refusal::TooLong => 14,
+        }
     }
 }
