@@ -112,10 +112,10 @@ fn is_bad_target(action: Action, n: usize, i: usize, parameter: usize) -> bool
 }
 
 // Refusals 34 to 37, but for the Gosubs of a Return.
-fn check_alone(n: usize, i: usize, own: RuleRecord, action: Action) -> Result<(), CheckRefusal>
-    requires { action ≡ action_of own.rule.opcode }
+fn check_alone(n: usize, i: usize, own: RuleRecord) -> Result<(), CheckRefusal>
     ensures { result ≡ alone_of n i own.rule own.declared }
 {
+    let action = rules::action_of(own.rule.opcode);
     if is_over_limits(own.declared) {
         return Err(CheckRefusal::Limits);
     }
@@ -132,12 +132,11 @@ fn check_alone(n: usize, i: usize, own: RuleRecord, action: Action) -> Result<()
 }
 
 // Refusals 31 to 37 of rule i of n, but for the Gosubs of a Return.
-fn check_record(n: usize, i: usize, own: RuleRecord, action: Action) -> Result<(), CheckRefusal>
-    requires { action ≡ action_of own.rule.opcode }
+fn check_record(n: usize, i: usize, own: RuleRecord) -> Result<(), CheckRefusal>
     ensures { result ≡ unless_broken (form_of own.mark own.rule.attribute own.rule.opcode) (alone_of n i own.rule own.declared) }
 {
     check_form(own.mark, own.rule.attribute, own.rule.opcode)?;
-    check_alone(n, i, own, action)
+    check_alone(n, i, own)
 }
 
 // ---- by other rules as they stand
@@ -208,7 +207,7 @@ fn next_differs(s: &[u8], n: usize, i: usize, own: RuleRecord) -> bool
     ensures { result ≡ next_differs n (rule_of s.now) (declared_of s.now) i own.rule own.declared }
 {
     let rule = own.rule;
-    if n <= i || rule.mask == 0 && rule.value == 0 {
+    if rule.mask == 0 && rule.value == 0 || n <= i {
         return false;
     }
     let next = rules::record_at(s, i + 1);
@@ -264,7 +263,7 @@ fn check_rest(
     if is_bad_queue(action, own.declared.held) {
         return Err(CheckRefusal::Queue);
     }
-    if next_differs(s, n, i, own) || target_differs(s, own, action) {
+    if target_differs(s, own, action) || next_differs(s, n, i, own) {
         return Err(CheckRefusal::Successor);
     }
     Ok(())
@@ -288,11 +287,11 @@ fn first_refusal(s: &[u8]) -> Result<(), CheckRefused>
     'rules: for i in 1..n + 1 {
         rule = i;
         let own = rules::record_at(s, i);
-        let action = rules::action_of(own.rule.opcode);
-        found = check_record(n, i, own, action);
+        found = check_record(n, i, own);
         if found.is_err() {
             break 'rules;
         }
+        let action = rules::action_of(own.rule.opcode);
         if is_return(action) {
             for g in 1..n + 1 {
                 if comes_back_nowhere(s, n, own, g) {
