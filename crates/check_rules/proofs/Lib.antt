@@ -1,2 +1,3 @@
 pub mod Gosubs
+pub mod RuleChecks
 pub mod Scan

@@ -1,10 +1,10 @@
-#![tactic(auto, using(std::proofs::lemmas::Bool::Decides::nat_tests), unfolding(rules::specs::Checks::known, rules::specs::Checks::form_of, rules::specs::Checks::alone_of, rules::specs::Checks::returns_nowhere, rules::specs::Checks::rest_of, rules::specs::Checks::rule_check, rules::specs::Checks::check))]
+#![tactic(auto, using(std::proofs::lemmas::Bool::Decides::nat_tests), unfolding(rules::specs::Checks::known, rules::specs::Checks::form_of, rules::specs::Checks::alone_of, rules::specs::Checks::rest_of, rules::specs::Checks::check))]
 // The check of a rule set (document 01, "Rule sets"): its length, then rules in number order, each from refusal 31 up; the first rule that breaks one is
 // named.
 ghost use Rattle.std.specs.Prelude.{◌≡◌, false, ◌&&◌, ◌||◌, ◌≤◌, eqb, ltb};
 ghost use Rattle.rules.specs.Opcodes.{action_of, is_return, is_gosub, goto_flag};
 ghost use Rattle.rules.specs.Records.{rule_count, rule_of, declared_of};
-ghost use Rattle.rules.specs.Checks.{known, bad_opcode, form_of, differs, bad_target, alone_of, bad_queue, held_after, comes_back_nowhere, comes_back_otherwise, next_differs, target_differs, returns_nowhere, return_differs, rest_of, rule_check, bad_length, check};
+ghost use Rattle.rules.specs.Checks.{unless_broken, known, bad_opcode, form_of, differs, bad_target, alone_of, bad_queue, held_after, comes_back_nowhere, comes_back_otherwise, next_differs, target_differs, return_differs, rest_of, rule_check, first_broken, bad_length, check};
 
 use rules::{
     Action, CheckRefusal, CheckRefused, Declared, MAX_CALLS, MAX_ITEMS, MAX_RULES, RECORD_SIZE,
@@ -112,10 +112,10 @@ fn is_bad_target(action: Action, n: usize, i: usize, parameter: usize) -> bool
 }
 
 // Refusals 34 to 37, but for the Gosubs of a Return.
-fn check_alone(n: usize, i: usize, own: RuleRecord, action: Action) -> Result<(), CheckRefusal>
-    requires { action ≡ action_of own.rule.opcode }
+fn check_alone(n: usize, i: usize, own: RuleRecord) -> Result<(), CheckRefusal>
     ensures { result ≡ alone_of n i own.rule own.declared }
 {
+    let action = rules::action_of(own.rule.opcode);
     if is_over_limits(own.declared) {
         return Err(CheckRefusal::Limits);
     }
@@ -131,6 +131,14 @@ fn check_alone(n: usize, i: usize, own: RuleRecord, action: Action) -> Result<()
     Ok(())
 }
 
+// Refusals 31 to 37 of rule i of n, but for the Gosubs of a Return.
+fn check_record(n: usize, i: usize, own: RuleRecord) -> Result<(), CheckRefusal>
+    ensures { result ≡ unless_broken (form_of own.mark own.rule.attribute own.rule.opcode) (alone_of n i own.rule own.declared) }
+{
+    check_form(own.mark, own.rule.attribute, own.rule.opcode)?;
+    check_alone(n, i, own)
+}
+
 // ---- by other rules as they stand
 
 // Whether a rule is a Gosub aimed at a home.
@@ -142,26 +150,24 @@ fn is_aimed(gosub: Rule, home: usize) -> bool
 
 // Whether rule g of n is a Gosub aimed at a Return's home, and the Return comes back from it at no rule.
 fn comes_back_nowhere(s: &[u8], n: usize, back: RuleRecord, g: usize) -> bool
-    requires count { n ≡ rule_count s.now }
-    requires there { (1 ≤ g) × (g ≤ n) }
+    requires { g ≤ n }
     ensures { result ≡ comes_back_nowhere n (rule_of s.now) (declared_of s.now) back.declared.home back.rule.parameter g }
 {
-    let call = rules::record_of(s, g);
+    let call = rules::record_at(s, g);
     is_aimed(call.rule, back.declared.home) && n - g < back.rule.parameter
 }
 
 // Whether rule g is a Gosub aimed at a Return's home, and the rule that the Return comes back to declares otherwise.
 fn comes_back_otherwise(s: &[u8], back: RuleRecord, g: usize) -> bool
-    requires there { (1 ≤ g) × (g ≤ rule_count s.now) }
-    requires somewhere { comes_back_nowhere (rule_count s.now) (rule_of s.now) (declared_of s.now) back.declared.home back.rule.parameter g ≡ false }
+    requires { comes_back_nowhere (rule_count s.now) (rule_of s.now) (declared_of s.now) back.declared.home back.rule.parameter g ≡ false }
     ensures { result ≡ comes_back_otherwise (rule_count s.now) (rule_of s.now) (declared_of s.now)
         back.declared.home back.rule.parameter back.declared.held g }
 {
-    let call = rules::record_of(s, g);
+    let call = rules::record_at(s, g);
     if !is_aimed(call.rule, back.declared.home) {
         return false;
     }
-    let target = rules::record_of(s, g + back.rule.parameter);
+    let target = rules::record_at(s, g + back.rule.parameter);
     let here = call.declared;
     declares_otherwise(
         target.declared,
@@ -169,41 +175,6 @@ fn comes_back_otherwise(s: &[u8], back: RuleRecord, g: usize) -> bool
         usize::from(here.depth),
         usize::from(back.declared.held),
     )
-}
-
-// Whether a rule is a Return that comes back at no rule from some Gosub aimed at its home.
-fn returns_nowhere(s: &[u8], n: usize, back: RuleRecord, action: Action) -> bool
-    requires count { n ≡ rule_count s.now }
-    requires own { action ≡ action_of back.rule.opcode }
-    ensures { result ≡ returns_nowhere n (rule_of s.now) (declared_of s.now) back.rule back.declared }
-{
-    if !is_return(action) {
-        return false;
-    }
-    for g in 1..=n {
-        if comes_back_nowhere(s, n, back, g) {
-            return true;
-        }
-    }
-    false
-}
-
-// Whether a rule is a Return, and the rule that it comes back to from some Gosub aimed at its home declares otherwise.
-fn return_differs(s: &[u8], n: usize, back: RuleRecord, action: Action) -> bool
-    requires count { n ≡ rule_count s.now }
-    requires own { action ≡ action_of back.rule.opcode }
-    requires somewhere { returns_nowhere n (rule_of s.now) (declared_of s.now) back.rule back.declared ≡ false }
-    ensures { result ≡ return_differs n (rule_of s.now) (declared_of s.now) back.rule back.declared }
-{
-    if !is_return(action) {
-        return false;
-    }
-    for h in 1..=n {
-        if comes_back_otherwise(s, back, h) {
-            return true;
-        }
-    }
-    false
 }
 
 fn is_bad_queue(action: Action, held: u8) -> bool
@@ -236,7 +207,7 @@ fn next_differs(s: &[u8], n: usize, i: usize, own: RuleRecord) -> bool
     ensures { result ≡ next_differs n (rule_of s.now) (declared_of s.now) i own.rule own.declared }
 {
     let rule = own.rule;
-    if n <= i || rule.mask == 0 && rule.value == 0 {
+    if rule.mask == 0 && rule.value == 0 || n <= i {
         return false;
     }
     let next = rules::record_at(s, i + 1);
@@ -277,7 +248,7 @@ fn target_differs(s: &[u8], own: RuleRecord, action: Action) -> bool
     )
 }
 
-// Refusals 38 and 39 of rule i of n.
+// Refusals 38 and 39 of rule i of n, but for the Gosubs of a Return.
 fn check_rest(
     s: &[u8],
     n: usize,
@@ -285,37 +256,17 @@ fn check_rest(
     own: RuleRecord,
     action: Action,
 ) -> Result<(), CheckRefusal>
-    requires count { n ≡ rule_count s.now }
     requires own { action ≡ action_of own.rule.opcode }
-    requires somewhere { returns_nowhere n (rule_of s.now) (declared_of s.now) own.rule own.declared ≡ false }
+    requires comes_back { return_differs n (rule_of s.now) (declared_of s.now) own.rule own.declared ≡ false }
     ensures { result ≡ rest_of n (rule_of s.now) (declared_of s.now) i own.rule own.declared }
 {
     if is_bad_queue(action, own.declared.held) {
         return Err(CheckRefusal::Queue);
     }
-    if next_differs(s, n, i, own)
-        || target_differs(s, own, action)
-        || return_differs(s, n, own, action)
-    {
+    if target_differs(s, own, action) || next_differs(s, n, i, own) {
         return Err(CheckRefusal::Successor);
     }
     Ok(())
-}
-
-// Refusals 31 to 39 of rule i of n.
-fn check_rule(s: &[u8], n: usize, i: usize) -> Result<(), CheckRefusal>
-    requires count { n ≡ rule_count s.now }
-    requires there { (1 ≤ i) × (i ≤ n) }
-    ensures { result ≡ rule_check s.now i }
-{
-    let own = rules::record_of(s, i);
-    check_form(own.mark, own.rule.attribute, own.rule.opcode)?;
-    let action = rules::action_of(own.rule.opcode);
-    check_alone(n, i, own, action)?;
-    if returns_nowhere(s, n, own, action) {
-        return Err(CheckRefusal::Target);
-    }
-    check_rest(s, n, i, own, action)
 }
 
 // ---- the rule set
@@ -324,6 +275,43 @@ fn is_bad_length(len: usize) -> bool
     ensures { result ≡ bad_length len }
 {
     len == 0 || len % RECORD_SIZE != 0 || MAX_RULES * RECORD_SIZE < len
+}
+
+// Refusals 31 to 39: the first rule that breaks one. A Return is looked at with every Gosub for 37 before any for 39.
+fn first_refusal(s: &[u8]) -> Result<(), CheckRefused>
+    ensures { result ≡ first_broken (rule_check s.now) (rule_count s.now) }
+{
+    let n = rules::rule_count(s);
+    let mut found = Ok(());
+    let mut rule = 0;
+    'rules: for i in 1..n + 1 {
+        rule = i;
+        let own = rules::record_at(s, i);
+        found = check_record(n, i, own);
+        if found.is_err() {
+            break 'rules;
+        }
+        let action = rules::action_of(own.rule.opcode);
+        if is_return(action) {
+            for g in 1..n + 1 {
+                if comes_back_nowhere(s, n, own, g) {
+                    found = Err(CheckRefusal::Target);
+                    break 'rules;
+                }
+            }
+            for h in 1..n + 1 {
+                if comes_back_otherwise(s, own, h) {
+                    found = Err(CheckRefusal::Successor);
+                    break 'rules;
+                }
+            }
+        }
+        found = check_rest(s, n, i, own, action);
+        if found.is_err() {
+            break 'rules;
+        }
+    }
+    found.map_err(|why| CheckRefused { why, rule })
 }
 
 // Whether a rule set is accepted, or else its first refusal and the rule that breaks it.
@@ -336,11 +324,5 @@ pub fn check(s: &[u8]) -> Result<(), CheckRefused>
             rule: 0,
         });
     }
-    let n = rules::rule_count(s);
-    for rule in 1..=n {
-        if let Err(why) = check_rule(s, n, rule) {
-            return Err(CheckRefused { why, rule });
-        }
-    }
-    Ok(())
+    first_refusal(s)
 }

@@ -220,11 +220,13 @@ pub fn rule_count(s: &[u8]) -> usize
     s.len() / RECORD_SIZE
 }
 
-// Record i of a rule set, the first being 1, where there is one.
-pub fn record_of(s: &[u8], i: usize) -> RuleRecord
-    requires { (1 ≤ i) × (i ≤ rule_count s.now) }
+// Record i of a rule set, the first being 1; what stands for it where there is none.
+pub fn record_at(s: &[u8], i: usize) -> RuleRecord
     ensures { result ≡ record_of s.now i }
 {
+    if i < 1 || rule_count(s) < i {
+        return no_record();
+    }
     let at = RECORD_SIZE * (i - 1);
     let mark = xdr::pair_of(s[at], s[at + 1]);
     let rule = rule_in(s, at);
@@ -234,14 +236,4 @@ pub fn record_of(s: &[u8], i: usize) -> RuleRecord
         rule,
         declared,
     }
-}
-
-// Record i of a rule set; what stands for it where there is none.
-pub fn record_at(s: &[u8], i: usize) -> RuleRecord
-    ensures { result ≡ record_of s.now i }
-{
-    if i < 1 || rule_count(s) < i {
-        return no_record();
-    }
-    record_of(s, i)
 }
