@@ -18,7 +18,7 @@ ghost use Rattle.extended_data.specs.ExtendedData.{switch_of, router_of, segment
 
 use fields::address::Address;
 use fields::strings::Text;
-use fields::words::Entries;
+use fields::words::{Entries, read_words};
 use sflow::{Refusal, Refused};
 
 #[derive(Clone, Copy)]
@@ -80,7 +80,7 @@ pub enum Extended {
 fn read_switch(s: &[u8], at: usize) -> Result<(Extended, usize), Refused>
     ensures { result ≡ as_read (mapped switch_of (decode extended_switch s.now at)) }
 {
-    let (words, next) = fields::words::read_words::<4>(s, at)?;
+    let (words, next) = read_words::<4>(s, at)?;
     let [src_vlan, src_priority, dst_vlan, dst_priority] = words;
     let switch = Switch {
         src_vlan,
@@ -95,7 +95,7 @@ fn read_router(s: &[u8], at: usize) -> Result<(Extended, usize), Refused>
     ensures { result ≡ as_read (mapped router_of (decode extended_router s.now at)) }
 {
     let (nexthop, masks_at) = fields::address::read_address(s, at)?;
-    let ([src_mask, dst_mask], next) = fields::words::read_words::<2>(s, masks_at)?;
+    let ([src_mask, dst_mask], next) = read_words::<2>(s, masks_at)?;
     let router = Router {
         nexthop,
         src_mask,
@@ -146,7 +146,7 @@ pub fn pass_segments(s: &[u8], first: usize, count: u32) -> Result<usize, Refuse
 fn read_gateway(s: &[u8], at: usize) -> Result<(Extended, usize), Refused>
     ensures { result ≡ as_read (mapped (gateway_of at) (decode extended_gateway s.now at)) }
 {
-    let ([router_as, src_as, src_peer_as], path_at) = fields::words::read_words::<3>(s, at)?;
+    let ([router_as, src_as, src_peer_as], path_at) = read_words::<3>(s, at)?;
     let (count, first) = xdr::read_word(s, path_at)?;
     let communities_at = pass_segments(s, first, count)?;
     let (communities, end) = read_numbers(s, communities_at)?;

@@ -7,6 +7,7 @@ ghost use Rattle.fields.specs.Parts.{as_passed};
 ghost use Rattle.packet_data.specs.Packets.{header_of, ipv4_of, ipv6_of, packet_of};
 
 use fields::strings::Text;
+use fields::words::read_words;
 use sflow::{Refusal, Refused};
 use xdr::Quad;
 
@@ -78,19 +79,17 @@ fn read_header(s: &[u8], at: usize) -> Result<(PacketData, usize), Refused>
 fn read_ipv4(s: &[u8], at: usize) -> Result<(PacketData, usize), Refused>
     ensures { result ≡ as_read (mapped ipv4_of (decode sampled_ipv4 s.now at)) }
 {
-    let (
-        [
-            length,
-            protocol,
-            src_ip,
-            dst_ip,
-            src_port,
-            dst_port,
-            tcp_flags,
-            tos,
-        ],
-        next,
-    ) = fields::words::read_words::<8>(s, at)?;
+    let (words, next) = read_words::<8>(s, at)?;
+    let [
+        length,
+        protocol,
+        src_ip,
+        dst_ip,
+        src_port,
+        dst_port,
+        tcp_flags,
+        tos,
+    ] = words;
     let packet = SampledIpv4 {
         length,
         protocol,
@@ -107,12 +106,10 @@ fn read_ipv4(s: &[u8], at: usize) -> Result<(PacketData, usize), Refused>
 fn read_ipv6(s: &[u8], at: usize) -> Result<(PacketData, usize), Refused>
     ensures { result ≡ as_read (mapped ipv6_of (decode sampled_ipv6 s.now at)) }
 {
-    let ([length, protocol], src_at) = fields::words::read_words::<2>(s, at)?;
+    let ([length, protocol], src_at) = read_words::<2>(s, at)?;
     let (src_ip, dst_at) = xdr::read_quad(s, src_at)?;
     let (dst_ip, ports_at) = xdr::read_quad(s, dst_at)?;
-    let ([src_port, dst_port, tcp_flags, priority], next) = fields::words::read_words::<4>(
-        s, ports_at,
-    )?;
+    let ([src_port, dst_port, tcp_flags, priority], next) = read_words::<4>(s, ports_at)?;
     let packet = SampledIpv6 {
         length,
         protocol,

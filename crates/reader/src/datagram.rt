@@ -7,7 +7,7 @@ ghost use Rattle.reader.specs.Datagrams.{as_head, datagram_read, head_at, step_a
 
 use crate::sample::Sample;
 use fields::address::Address;
-use fields::words::Entries;
+use fields::words::{Entries, read_words};
 use sflow::{Refusal, Refused};
 
 // What stands before the samples; samples are the offset of the first one and their number.
@@ -37,7 +37,7 @@ pub fn read_head(s: &[u8]) -> Result<Head, Refused>
         });
     }
     let (agent, words_at) = fields::address::read_address(s, agent_at)?;
-    let ([sequence_number, uptime, count], first) = fields::words::read_words::<3>(s, words_at)?;
+    let ([sequence_number, uptime, count], first) = read_words::<3>(s, words_at)?;
     Ok(Head {
         agent,
         sequence_number,

@@ -7,7 +7,7 @@ ghost use Rattle.fields.specs.Parts.{as_passed};
 ghost use Rattle.reader.specs.Samples.{flow_words_of, flow_of, counters_of, sample_of, as_sample};
 
 use counter_data::CounterBody;
-use fields::words::Entries;
+use fields::words::{Entries, read_words};
 use packet_data::PacketData;
 use sflow::{Refusal, Refused};
 
@@ -55,18 +55,16 @@ pub struct Sample {
 fn read_flow_words(s: &[u8], at: usize) -> Result<(FlowWords, usize), Refused>
     ensures { result ≡ as_read (mapped flow_words_of (decode (fixed flow_words) s.now at)) }
 {
-    let (
-        [
-            sequence_number,
-            source_id,
-            sampling_rate,
-            sample_pool,
-            drops,
-            input,
-            output,
-        ],
-        next,
-    ) = fields::words::read_words::<7>(s, at)?;
+    let (values, next) = read_words::<7>(s, at)?;
+    let [
+        sequence_number,
+        source_id,
+        sampling_rate,
+        sample_pool,
+        drops,
+        input,
+        output,
+    ] = values;
     let words = FlowWords {
         sequence_number,
         source_id,
@@ -99,8 +97,7 @@ pub fn read_flow(s: &[u8], at: usize) -> Result<(FlowSample, usize), Refused>
 pub fn read_counters(s: &[u8], at: usize) -> Result<(CountersSample, usize), Refused>
     ensures { result ≡ as_read (mapped (counters_of at) (decode counters_sample s.now at)) }
 {
-    let ([sequence_number, source_id, sampling_interval], counters_at) =
-        fields::words::read_words::<3>(s, at)?;
+    let ([sequence_number, source_id, sampling_interval], counters_at) = read_words::<3>(s, at)?;
     let (counters, next) = counter_data::read_counter_body(s, counters_at)?;
     let sample = CountersSample {
         sequence_number,
