@@ -19,7 +19,7 @@ returns-then-room-count c = no_room _ _ _ _ _ (sym c.read.ensures ∙ c.in-Ok.is
 
 pub returns-in-Err : goal.returns-in-Err
 returns-in-Err c =
-    lists_refused _ _ _ _ _ _ _ _ _ (sym c.read.ensures ∙ c.in-Err.is) c.refusal_number-n.ensures
+    lists_refused _ _ _ _ _ _ _ _ _ (sym c.read.ensures ∙ c.in-Err.is) c.from-n.ensures
     c.refused_line.ensures.0 (omega (arith, c.in_ok-room.ensures))
 
 pub returns-else-room-count : goal.returns-else-room-count

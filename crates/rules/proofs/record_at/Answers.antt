@@ -16,6 +16,6 @@ returns-then-i-lt1 c =
 
 pub returns : goal.returns
 returns c =
-    record_joined c.args.s.now c.args.i (omega arith) (omega (arith, c.rule_count.ensures)) 
+    record_joined c.args.s.now c.args.i (omega arith) (omega (arith, c.rule_count.ensures))
     (record { mark = c.pair_of-mark.result; rule = c.rule_in-rule.result; declared = c.declared_in-declared.result })
     (c.pair_of-mark.ensures ∙ mark_read c.args.s.now _) c.rule_in-rule.ensures c.declared_in-declared.ensures
