@@ -5,7 +5,7 @@ use std::marker::Model;
 
 // At most N numbers, the newest last.
 #[derive(Drop)]
-pub struct Stack<const N: usize> {
+pub(crate) struct Stack<const N: usize> {
     numbers: [usize; N],
     count: usize,
 }
@@ -20,7 +20,7 @@ impl<const N: usize> Model for Stack<N> {
 }
 
 impl<const N: usize> Stack<N> {
-    pub fn new() -> Self
+    pub(crate) fn new() -> Self
         ensures { result ≡ [] }
     {
         Stack {
@@ -29,7 +29,7 @@ impl<const N: usize> Stack<N> {
         }
     }
 
-    pub fn push(&mut self, number: usize)
+    pub(crate) fn push(&mut self, number: usize)
         requires { length self.old < N }
         ensures { self.new ≡ number ∷ self.old }
     {
@@ -38,7 +38,7 @@ impl<const N: usize> Stack<N> {
     }
 
     // Takes the newest.
-    pub fn pop(&mut self) -> usize
+    pub(crate) fn pop(&mut self) -> usize
         requires { 0 < length self.old }
         ensures newest { result ≡ get_or self.old 0 0 }
         ensures rest { self.new ≡ drop 1 self.old }
@@ -47,13 +47,13 @@ impl<const N: usize> Stack<N> {
         self.numbers[self.count]
     }
 
-    pub fn clear(&mut self)
+    pub(crate) fn clear(&mut self)
         ensures { self.new ≡ [] }
     {
         self.count = 0;
     }
 
-    pub fn oldest_first(&self) -> &[usize]
+    pub(crate) fn oldest_first(&self) -> &[usize]
         ensures { reverse result.now ≡ self.now }
     {
         &self.numbers[..self.count]
