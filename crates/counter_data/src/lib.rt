@@ -73,6 +73,7 @@ fn pass_body(s: &[u8], at: usize, version: u32) -> Result<usize, Refused>
 }
 
 // Counters at their version word.
+#[inline(always)]
 pub fn read_counter_body(s: &[u8], at: usize) -> Result<(CounterBody, usize), Refused>
     ensures { result ≡ as_read (mapped (counter_body_of at) (decode counters_type s.now at)) }
 {

@@ -77,6 +77,7 @@ pub enum Extended {
     IsUrl(Url),
 }
 
+#[inline(always)]
 fn read_switch(s: &[u8], at: usize) -> Result<(Extended, usize), Refused>
     ensures { result ≡ as_read (mapped switch_of (decode extended_switch s.now at)) }
 {
@@ -91,6 +92,7 @@ fn read_switch(s: &[u8], at: usize) -> Result<(Extended, usize), Refused>
     Ok((Extended::IsSwitch(switch), next))
 }
 
+#[inline(always)]
 fn read_router(s: &[u8], at: usize) -> Result<(Extended, usize), Refused>
     ensures { result ≡ as_read (mapped router_of (decode extended_router s.now at)) }
 {
@@ -105,6 +107,7 @@ fn read_router(s: &[u8], at: usize) -> Result<(Extended, usize), Refused>
 }
 
 // A list of words.
+#[inline(always)]
 fn read_numbers(s: &[u8], at: usize) -> Result<(Entries, usize), Refused>
     ensures { result ≡ as_read (mapped (entries_at (at + 4)) (decode (list word) s.now at)) }
 {
@@ -114,6 +117,7 @@ fn read_numbers(s: &[u8], at: usize) -> Result<(Entries, usize), Refused>
 }
 
 // A path segment.
+#[inline(always)]
 pub fn read_segment(s: &[u8], at: usize) -> Result<(Segment, usize), Refused>
     ensures { result ≡ as_read (mapped (segment_of at) (decode as_path_type s.now at)) }
 {
@@ -143,6 +147,7 @@ pub fn pass_segments(s: &[u8], first: usize, count: u32) -> Result<usize, Refuse
     fields::lists::pass_entries(first, count, |at| pass_segment(s, at))
 }
 
+#[inline(always)]
 fn read_gateway(s: &[u8], at: usize) -> Result<(Extended, usize), Refused>
     ensures { result ≡ as_read (mapped (gateway_of at) (decode extended_gateway s.now at)) }
 {
@@ -162,6 +167,7 @@ fn read_gateway(s: &[u8], at: usize) -> Result<(Extended, usize), Refused>
     Ok((Extended::IsGateway(gateway), next))
 }
 
+#[inline(always)]
 fn read_user(s: &[u8], at: usize) -> Result<(Extended, usize), Refused>
     ensures { result ≡ as_read (mapped (user_of at) (decode extended_user s.now at)) }
 {
@@ -170,6 +176,7 @@ fn read_user(s: &[u8], at: usize) -> Result<(Extended, usize), Refused>
     Ok((Extended::IsUser(User { src_user, dst_user }), next))
 }
 
+#[inline(always)]
 fn read_url(s: &[u8], at: usize) -> Result<(Extended, usize), Refused>
     ensures { result ≡ as_read (mapped (url_of at) (decode extended_url s.now at)) }
 {
@@ -185,6 +192,7 @@ fn read_url(s: &[u8], at: usize) -> Result<(Extended, usize), Refused>
 }
 
 // An extended entry at its type word.
+#[inline(always)]
 pub fn read_extended(s: &[u8], at: usize) -> Result<(Extended, usize), Refused>
     ensures { result ≡ as_read (mapped (extended_of at) (decode extended_data_type s.now at)) }
 {

@@ -8,6 +8,7 @@ ghost use Rattle.fields.specs.Words.{words};
 use sflow::{Refusal, Refused};
 
 // So many words, each an item of its own; one comparison tells whether all are there.
+#[inline(always)]
 pub fn read_words<const N: usize>(s: &[u8], at: usize) -> Result<([u32; N], usize), Refused>
     ensures { result ≡ as_read (decode (words N) s.now at) }
 {

@@ -53,6 +53,7 @@ impl From<TryFromIntError> for WriteRefusal {
 }
 
 // Words in place of the octets from an offset on.
+#[inline(always)]
 fn put_words(d: &mut [u8], at: usize, ws: &[u32])
     requires { at + length ws.now * 4 ≤ length d.old }
     ensures { d.new ≡ stored d.old at (words_octets ws.now) }
@@ -75,6 +76,7 @@ pub enum Part<'a> {
 
 impl<'a> Part<'a> {
     // How many octets it takes.
+    #[inline(always)]
     fn size(self) -> usize
         ensures { result ≡ length (part_octets self.entry) }
     {
@@ -86,6 +88,7 @@ impl<'a> Part<'a> {
     }
 
     // Puts it in place of the octets from an offset on.
+    #[inline(always)]
     fn put(self, d: &mut [u8], at: usize)
         requires { at + length (part_octets self) ≤ length d.old }
         ensures { d.new ≡ stored d.old at (part_octets self.entry) }
@@ -103,6 +106,7 @@ impl<'a> Part<'a> {
 }
 
 // Parts one behind the other.
+#[inline(always)]
 pub fn write_parts(d: &mut [u8], parts: &[Part]) -> Result<usize, WriteRefusal>
     ensures { afterwards result d.new ≡ write_alone (parts_octets parts.now) d.old }
 {

@@ -121,6 +121,7 @@ fn open(x: FlowEntry) -> Row
 }
 
 // The row behind a later sample of its source.
+#[inline(always)]
 fn go_on(row: Row, x: FlowEntry) -> Result<Row, EntryRefusal>
     ensures { result ≡ row_or_refusal (later row x) }
 {
@@ -145,6 +146,7 @@ fn go_on(row: Row, x: FlowEntry) -> Result<Row, EntryRefusal>
 }
 
 // A sample entered in one row, by value: the row afterwards.
+#[inline(always)]
 pub fn update(row: Row, x: FlowEntry) -> Result<Row, EntryRefusal>
     ensures { result ≡ row_or_refusal (updated row x) }
 {

@@ -49,6 +49,7 @@ pub enum PacketData {
     Ipv6(SampledIpv6),
 }
 
+#[inline(always)]
 fn read_header(s: &[u8], at: usize) -> Result<(PacketData, usize), Refused>
     ensures { result ≡ as_read (mapped (header_of at) (decode sampled_header s.now at)) }
 {
@@ -76,6 +77,7 @@ fn read_header(s: &[u8], at: usize) -> Result<(PacketData, usize), Refused>
     Ok((PacketData::Header(header), next))
 }
 
+#[inline(always)]
 fn read_ipv4(s: &[u8], at: usize) -> Result<(PacketData, usize), Refused>
     ensures { result ≡ as_read (mapped ipv4_of (decode sampled_ipv4 s.now at)) }
 {
@@ -103,6 +105,7 @@ fn read_ipv4(s: &[u8], at: usize) -> Result<(PacketData, usize), Refused>
     Ok((PacketData::Ipv4(packet), next))
 }
 
+#[inline(always)]
 fn read_ipv6(s: &[u8], at: usize) -> Result<(PacketData, usize), Refused>
     ensures { result ≡ as_read (mapped ipv6_of (decode sampled_ipv6 s.now at)) }
 {
@@ -124,6 +127,7 @@ fn read_ipv6(s: &[u8], at: usize) -> Result<(PacketData, usize), Refused>
 }
 
 // Packet data at their type word.
+#[inline(always)]
 pub fn read_packet(s: &[u8], at: usize) -> Result<(PacketData, usize), Refused>
     ensures { result ≡ as_read (mapped (packet_of at) (decode packet_data_type s.now at)) }
 {

@@ -52,6 +52,7 @@ pub struct Sample {
     pub values: SampleValues,
 }
 
+#[inline(always)]
 fn read_flow_words(s: &[u8], at: usize) -> Result<(FlowWords, usize), Refused>
     ensures { result ≡ as_read (mapped flow_words_of (decode (fixed flow_words) s.now at)) }
 {
@@ -78,6 +79,7 @@ fn read_flow_words(s: &[u8], at: usize) -> Result<(FlowWords, usize), Refused>
 }
 
 // A flow sample behind its type word.
+#[inline(always)]
 pub fn read_flow(s: &[u8], at: usize) -> Result<(FlowSample, usize), Refused>
     ensures { result ≡ as_read (mapped (flow_of at) (decode flow_sample s.now at)) }
 {
@@ -94,6 +96,7 @@ pub fn read_flow(s: &[u8], at: usize) -> Result<(FlowSample, usize), Refused>
 }
 
 // A counter sample behind its type word.
+#[inline(always)]
 pub fn read_counters(s: &[u8], at: usize) -> Result<(CountersSample, usize), Refused>
     ensures { result ≡ as_read (mapped (counters_of at) (decode counters_sample s.now at)) }
 {
@@ -109,6 +112,7 @@ pub fn read_counters(s: &[u8], at: usize) -> Result<(CountersSample, usize), Ref
 }
 
 // A sample at its type word.
+#[inline(always)]
 pub fn read_sample(s: &[u8], at: usize) -> Result<(Sample, usize), Refused>
     ensures { result ≡ as_sample at (mapped (sample_of at) (decode sample_type s.now at)) }
 {
