@@ -1,18 +1,16 @@
--- What listing leaves of the octets held, and moving them to the front. Assumes nothing.
+-- What listing leaves of the octets held. Assumes nothing.
 use Prim.Native.Nat.{ℕ, ◌+◌, ◌-◌, ◌≤◌, ◌<◌}
 use native.Mathlib.Nat.{zero-add}
-use native.Mathlib.Numerals.{add-one}
 use native.Mathlib.Omega.{arith}
 use mathlib.Core.Path.{◌≡◌, refl, sym, ap, ◌∙◌, subst}
 use mathlib.Core.Logic.{⊎_elim}
 use mathlib.Core.Bool.{Bool, true, false, true≢false, not, cond}
 use mathlib.Core.List.{List, ◌++◌, append_assoc}
-use lib.ListN.{length, get_or, set, take, drop, length-take, length-drop, take-append-drop}
+use lib.ListN.{length, take, drop, length-take, length-drop, take-append-drop}
 use Rattle.std.proofs.lemmas.List.{take-take}
-use lib.Seq.{take-append_seam, take-append-add, paste, paste-suc, length_paste_head, length-take-le, take_all, get_or-take, get_or-drop, get_or-append-add, drop-drop}
+use lib.Seq.{take-append_seam, take-append-add, length-take-le, take_all, drop-drop}
 use lib.Dec.{leb}
 use Rattle.xdr.specs.Numbers.{Octets}
-use Rattle.xdr.proofs.Writing.{stored_pasted}
 use Rattle.sflow.proofs.Slices.{octets_drop, octets_take}
 use Rattle.xdr.specs.Writes.{afterwards, stored}
 use Rattle.listing.specs.declared.State.{State}
@@ -111,48 +109,6 @@ module _ (d e s : List ℕ) (k : ℕ) (t : State) (q : Place) (inside : k ≤ le
 -- at the end no record is left
 pub end_listed : (begin : State) (s : List ℕ) (k : ℕ) (t : State) → k ≤ length s → length s ≤ k → Lines begin s k t → Listed begin s (progress k t false false)
 end_listed begin s k t inside h l = record { inside = inside; lines = l.0; text_is = l.1; left = λ _. sym (frame_short s k (omega (arith, h))) }
-
--- ---- octets moved to the front
-
--- in the buffer whose first i octets are replaced by those from an offset on, the next of these is still there
-module _ (d : List ℕ) (from n i : ℕ) (inside : from + n ≤ length d) (more : i < n) where
-  abbrev moving : List ℕ
-  moving = take n (drop from d)
-
-  long : length moving ≡ n
-  long = length-take-le n (drop from d) (rw length-drop (omega (arith, inside)))
-
-  next_octet : get_or (paste d 0 moving i) (from + i) 0 ≡ get_or moving i 0
-  next_octet =
-      let head = take 0 d ++ take i moving in
-      let short : i ≤ length moving = rw long (omega (arith, more)) in
-      let h : length head ≡ 0 + i = length_paste_head d 0 moving i (omega arith) short in
-      let at : from + i ≡ length head + from = omega (arith, h) in
-      let seam : 0 + i + from ≡ from + i = omega arith in
-      ap (λ (k : ℕ). get_or (paste d 0 moving i) k 0) at ∙ get_or-append-add head (drop (0 + i) d) from 0
-      ∙ get_or-drop (0 + i) d from 0 ∙ ap (λ (k : ℕ). get_or d k 0) seam ∙ sym (get_or-drop from d i 0) ∙ sym (get_or-take n (drop from d) i 0 more)
-
-  -- a turn of the loop
-  pub one_moved : (x : ℕ) → x ≡ get_or (paste d 0 moving i) (from + i) 0 → set (paste d 0 moving i) i x ≡ paste d 0 moving (i + 1)
-  one_moved x e =
-      let room : 0 + i < length d = omega (arith, inside, more) in
-      let short : i < length moving = rw long more in
-      rw (e, next_octet)
-      (ap (λ (k : ℕ). set (paste d 0 moving i) k (get_or moving i 0)) (sym (zero-add i)) ∙ paste-suc d 0 moving i 0 room short ∙ ap (paste d 0 moving) (sym (add-one i)))
-
--- all are moved
-pub all_moved : (d : List ℕ) (from n i : ℕ) → from + n ≤ length d → i ≡ n → paste d 0 (take n (drop from d)) i ≡ stored d 0 (take n (drop from d))
-all_moved d from n i inside e =
-    let l : length (take n (drop from d)) ≡ n = length-take-le n (drop from d) (rw length-drop (omega (arith, inside))) in
-    stored_pasted d 0 (take n (drop from d)) i (e ∙ sym l)
-
--- octets that stand at the front already
-pub front_stored : (d : List ℕ) (from end : ℕ) → from ≡ 0 → end ≤ length d → stored d 0 (take (end - from) (drop from d)) ≡ d
-unfolding stored
-front_stored d from end z h =
-    let e : end - 0 ≡ end = omega arith in
-    let l : length (take end d) ≡ end = length-take-le end d h in
-    rw (z, e) (rw (l, zero-add) (take-append-drop end d))
 
 -- ---- the last lines
 

@@ -1,10 +1,12 @@
 -- A capture that is listed part by part. Assumes nothing.
 use Rattle.std.proofs.Common.{◌≡◌, ℕ, ◌+◌, ◌-◌, ◌<◌, ◌≤◌, Bool, true, false, List, [], ◌∷◌, ◌++◌, length, take, drop, sym, refl, ap, ◌∙◌, subst, append_assoc, append-nil, arith, drop-drop, length-drop, take_all, Option, None, Some, Err}
 use mathlib.Core.Bool.{true≢false}
+use Rattle.std.specs.List.{copy_within}
 use Rattle.std.proofs.lemmas.List.{drop-take, length-take-le}
+use lib.Seq.{take-append_seam}
 use Rattle.xdr.specs.Numbers.{Octets}
 use Rattle.sflow.proofs.Slices.{octets_drop}
-use Rattle.xdr.specs.Writes.{afterwards, stored}
+use Rattle.xdr.specs.Writes.{afterwards}
 use Rattle.std.specs.Io.KnownBytes.{Consumes, Appends, IsAtEnd}
 use Rattle.std.proofs.KnownBytes.{Consumes-nil, Consumes-trans, Appends-nil, Appends-trans}
 use Rattle.listing.specs.Captures.{frame_of, list_all}
@@ -16,7 +18,7 @@ use Rattle.listing.proofs.Texts.{Fit, none, one, text_parts}
 use Rattle.lister.specs.declared.Progress.{Progress}
 use Rattle.lister.specs.Held.{FitRecords, Listed, Lists, ListsAll}
 use Rattle.lister.proofs.Parts.{take_split}
-use Rattle.lister.proofs.Records.{Records, records_listed, front_of_stored, short_says, capture_parts, texts_parts, behind_parts, fit_parts, wrong_says, wrong_stays}
+use Rattle.lister.proofs.Records.{Records, records_listed, short_says, capture_parts, texts_parts, behind_parts, fit_parts, wrong_says, wrong_stays}
 
 fit_records : (xs : List (List ℕ)) → Fit xs → FitRecords xs
 fit_records [] none = tt
@@ -213,12 +215,11 @@ rest_of_front s from end h =
 
 -- octets moved to the front
 pub moved_to_front : (s : List ℕ) (from end : ℕ) → from ≤ end → end ≤ length s
-    → take (end - from) (stored s 0 (take (end - from) (drop from s))) ≡ drop from (take end s)
+    → take (end - from) (copy_within s from end 0) ≡ drop from (take end s)
 moved_to_front s from end low high =
-    let part = take (end - from) (drop from s) in
-    let l = length-drop from s in
-    let long : length part ≡ end - from = length-take-le (end - from) (drop from s) (omega (arith, low, high)) in
-    ap (λ (k : ℕ). take k (stored s 0 part)) (sym long) ∙ front_of_stored s part ∙ sym (rest_of_front s from end low)
+    let long : length (take (end - from) (drop from s)) ≡ end - from = length-take-le (end - from) (drop from s) (rw length-drop (omega (arith, low, high))) in
+    ap (λ (k : ℕ). take k (copy_within s from end 0)) (sym long)
+    ∙ take-append_seam (take (end - from) (drop from s)) (drop (0 + (end - from)) s) ∙ sym (rest_of_front s from end low)
 
 -- an unfinished record leaves room in a buffer that takes the longest
 pub room_left : (s : List ℕ) (held : ℕ) → held ≤ length s → frame_of (take held s) ≡ Err Short → 65511 ≤ length s → held < length s

@@ -4,7 +4,6 @@
 
 ghost use Rattle.std.specs.Prelude.{◌-◌, ◌<◌, ◌≤◌, ◌≡◌, IfOk, IfSome, true, false, length, take, drop};
 ghost use Rattle.std.specs.Io.KnownBytes.{Appends, Consumes, IsAtEnd};
-ghost use Rattle.xdr.specs.Writes.{stored};
 ghost use Rattle.listing.specs.Texts.{nothing_listed, end_text};
 ghost use Rattle.lister.specs.Held.{room_for_any, progress_of, is_full, is_bad, Listed, Lists, longest_record, ListsAll};
 
@@ -88,6 +87,7 @@ fn flush<E: Eprint + AllocGlobal, W: Write>(rt: &E, writer: &mut W, output: &[u8
         (take n output.now) }
 {
     let mut done = 0;
+    // goes on by what a write took: there is no index to count
     while done < n {
         match write_some(writer, &output[done..n]) {
             Ok(taken) => done += taken,
@@ -149,6 +149,7 @@ fn list_held<E: Eprint + AllocGlobal, W: Write>(
 {
     let mut listed = 0;
     let mut state = begin;
+    // goes on by what a call listed: there is no index to count
     while listed < s.len() {
         let p = listing::list_records(output, &s[listed..], state);
         listed += p.at;
@@ -162,20 +163,6 @@ fn list_held<E: Eprint + AllocGlobal, W: Write>(
         }
     }
     stand_at(listed, state, false, false)
-}
-
-// Moves the octets between two offsets to the front, where they do not stand there already.
-fn shift(input: &mut [u8], from: usize, end: usize)
-    requires { (from ≤ end) × (end ≤ length input.old) }
-    ensures { input.new ≡ stored input.old 0 (take (end - from) (drop from input.old)) }
-{
-    if from == 0 {
-        return;
-    }
-    let n = end - from;
-    for i in 0..n {
-        input[i] = input[from + i];
-    }
 }
 
 // Writes what follows the last record, in front of the octets that are left, and answers whether all of it was taken.
@@ -237,7 +224,7 @@ fn list_input<E: Eprint + AllocGlobal, R: Read, W: Write>(
         if p.bad {
             return finish(rt, writer, output, state, &input[listed..end]);
         }
-        shift(input, listed, end);
+        input.copy_within(listed..end, 0);
         held = end - listed;
     }
     false
@@ -250,11 +237,7 @@ fn say<E: Eprint>(rt: &E, text: &str) {
 // Whether the program was given an argument behind its name, of any length.
 fn has_arguments<E: Env>(rt: &E) -> bool {
     let mut first = [0u8; 1];
-    match rt.arg(1, &mut first) {
-        Ok(_) => true,
-        Err(FillError::TooLong) => true,
-        Err(FillError::NotPresent) => false,
-    }
+    !matches!(rt.arg(1, &mut first), Err(FillError::NotPresent))
 }
 
 fn main(rt: HostRuntime) {

@@ -42,5 +42,5 @@ loop-preserved g c =
     let low = front_inside _ _ _ l.listed.inside in
     let end = c.in-Some.end in
     let from = c.list_held-p.result.listed in
-    let moved = ap (take (end - from)) c.shift.ensures ∙ moved_to_front c.fill.new.input from end low found.inside.1 in
+    let moved = ap (take (end - from)) c.copy_within.ensures.after ∙ moved_to_front c.fill.new.input from end low found.inside.1 in
     (search rules, ap frame_of moved ∙ unfinished, subst (Streamed _ _ _ _ _) (sym moved) listed)
