@@ -269,7 +269,7 @@ fn closing_text(
 }
 
 // What follows the last record: where the capture goes wrong there, the line that says so with its offset, then the last line; 123 octets of room are asked for.
-// The flag and the numbers stand apart, as C hands them to the function above this one.
+// The flag and the numbers stand apart, here and in what it calls: the reference names the function with these parameters.
 pub fn closing_lines(
     d: &mut [u8],
     at: usize,
