@@ -11,7 +11,7 @@ ghost use Rattle.line_calls.specs.ListedLines.{stop_number, state_in, place_repo
 use listing::{Place, State, Stop};
 use numbers::fill;
 
-// The number of what stopped the listing.
+// The number of what stopped the listing. No `From`: it would have to stand in the crate of `Stop`, and these numbers are the C interface's.
 fn stop_number(stop: Stop) -> u32
     ensures { result ≡ stop_number stop }
 {

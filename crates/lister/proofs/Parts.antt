@@ -1,18 +1,16 @@
--- What listing leaves of the octets held, and moving them to the front. Assumes nothing.
+-- What listing leaves of the octets held. Assumes nothing.
 use Prim.Native.Nat.{ℕ, ◌+◌, ◌-◌, ◌≤◌, ◌<◌}
 use native.Mathlib.Nat.{zero-add}
-use native.Mathlib.Numerals.{add-one}
 use native.Mathlib.Omega.{arith}
 use mathlib.Core.Path.{◌≡◌, refl, sym, ap, ◌∙◌, subst}
 use mathlib.Core.Logic.{⊎_elim}
-use mathlib.Core.Bool.{Bool, true, false, true≢false, not, cond}
+use mathlib.Core.Bool.{Bool, true, false, cond}
 use mathlib.Core.List.{List, ◌++◌, append_assoc}
-use lib.ListN.{length, get_or, set, take, drop, length-take, length-drop, take-append-drop}
+use lib.ListN.{length, take, drop, length-take, length-drop, take-append-drop}
 use Rattle.std.proofs.lemmas.List.{take-take}
-use lib.Seq.{take-append_seam, take-append-add, paste, paste-suc, length_paste_head, length-take-le, take_all, get_or-take, get_or-drop, get_or-append-add, drop-drop}
+use lib.Seq.{take-append_seam, take-append-add, length-take-le, take_all, drop-drop}
 use lib.Dec.{leb}
 use Rattle.xdr.specs.Numbers.{Octets}
-use Rattle.xdr.proofs.Writing.{stored_pasted}
 use Rattle.sflow.proofs.Slices.{octets_drop, octets_take}
 use Rattle.xdr.specs.Writes.{afterwards, stored}
 use Rattle.listing.specs.declared.State.{State}
@@ -21,7 +19,7 @@ use Rattle.record_lines.specs.Lines.{write_line}
 use Rattle.record_lines.proofs.Room.{room_enough}
 use Rattle.listing.specs.Captures.{frame_of, datagram_in, list_all, begins, StopsAt}
 use Rattle.listing.specs.Texts.{text_from}
-use Rattle.listing.specs.declared.FrameFault.TheVariants.{Short, Wrong}
+use Rattle.listing.specs.declared.FrameFault.TheVariants.{Short}
 use Rattle.std.proofs.Common.{Err}
 use Rattle.listing.specs.declared.Stop.{Stop}
 use Rattle.listing.specs.declared.Stop.TheVariants.{GoesOn, NoRecord, Output, BadRecord}
@@ -30,19 +28,15 @@ use Rattle.listing.proofs.Inside.{listed_inside, stored_inside, some_or_nothing}
 use Rattle.listing.proofs.Stops.{list_stops}
 use Rattle.listing.proofs.Texts.{Told, list_all_told}
 use Rattle.lister.specs.declared.Progress.{Progress}
-use Rattle.lister.specs.Held.{is_full, is_bad, Listed}
+use Rattle.lister.specs.declared.Rest.{Rest}
+use Rattle.lister.specs.declared.Rest.TheVariants.{Unfinished, Bad}
+use Rattle.lister.specs.Held.{LeftAs, Listed}
 use Rattle.std.specs.Prelude.{Some, None}
 
 -- ---- octets listed from an offset on
 
-full : (x : Stop) → not (is_full x) ≡ false → x ≡ Output
-full GoesOn e = absurd (true≢false e)
-full NoRecord e = absurd (true≢false e)
-full Output e = refl
-full BadRecord e = absurd (true≢false e)
-
-abbrev progress : ℕ → State → Bool → Bool → Progress
-progress listed t bad failed = record { listed = listed; state = t; bad = bad; failed = failed }
+abbrev progress : ℕ → State → Rest → Progress
+progress listed t rest = record { listed = listed; state = t; rest = rest }
 
 -- octets s behind a state are listed up to an offset: some lines, and then the text of what is left behind the state there, are the text of all
 abbrev pub Lines : State → List ℕ → ℕ → State → Type 0
@@ -76,31 +70,28 @@ module _ (d e s : List ℕ) (k : ℕ) (t : State) (q : Place) (inside : k ≤ le
       a.text_is ∙ ap (λ (l : List ℕ). a.text ++ text_from q.state l) left_is in
       (lines ++ a.text, h ∙ ap (λ (l : List ℕ). lines ++ l) f ∙ sym (append_assoc lines a.text (text_from q.state (drop (k + q.at) s))))
 
-  left_by : (x : Stop) → q.stop ≡ x → not (is_full x) ≡ true → frame_of (drop q.at (drop k s)) ≡ cond (is_bad x) (Err Wrong) (Err Short)
-  left_by GoesOn e f = absurd (stops.over e)
-  left_by NoRecord e f = stops.no_record.0 e
-  left_by Output e f = absurd (true≢false (sym f))
-  left_by BadRecord e f = stops.bad_record.0 e
-
-  -- the output was not full
-  pub all_listed : (begin : State) → Lines begin s k t → not (is_full q.stop) ≡ true → (bad : Bool) → bad ≡ is_bad q.stop
-      → Listed begin s (progress (k + q.at) q.state bad false)
-  all_listed begin h f bad b =
+  -- for whichever reason it stopped
+  pub listed_there : (begin : State) → Lines begin s k t → (rest : Rest) → LeftAs rest (drop q.at (drop k s)) → Listed begin s (progress (k + q.at) q.state rest)
+  listed_there begin h rest left =
       let l = more_lines begin h in
-      let rest : frame_of (drop (k + q.at) s) ≡ cond bad (Err Wrong) (Err Short) =
-      ap frame_of (sym left_is) ∙ left_by q.stop refl f ∙ ap (λ (x : Bool). cond x (Err Wrong) (Err Short)) (sym b) in
-      record { inside = listed_part; lines = l.0; text_is = l.1; left = λ _. rest }
+      record { inside = listed_part; lines = l.0; text_is = l.1; left = subst (LeftAs rest) left_is left }
 
-  -- it failed
-  pub failed_there : (begin : State) → Lines begin s k t → Listed begin s (progress (k + q.at) q.state false true)
-  failed_there begin h =
-      let l = more_lines begin h in
-      record { inside = listed_part; lines = l.0; text_is = l.1; left = λ f. absurd (true≢false f) }
+  pub stops_bad : q.stop ≡ BadRecord → LeftAs Bad (drop q.at (drop k s))
+  stops_bad = stops.bad_record.0
+
+  pub stops_else : (q.stop ≡ Output → ⊥) → (q.stop ≡ BadRecord → ⊥) → LeftAs Unfinished (drop q.at (drop k s))
+  stops_else a b = left_by q.stop refl
+    where
+      left_by : (x : Stop) → q.stop ≡ x → frame_of (drop q.at (drop k s)) ≡ Err Short
+      left_by GoesOn e = absurd (stops.over e)
+      left_by NoRecord e = stops.no_record.0 e
+      left_by Output e = absurd (a e)
+      left_by BadRecord e = absurd (b e)
 
   -- an output that takes every record's lines takes some before it is full
-  pub some_listed : not (is_full q.stop) ≡ false → 222796 ≤ length e → Octets s → 0 < q.at
+  pub some_listed : q.stop ≡ Output → 222796 ≤ length e → Octets s → 0 < q.at
   some_listed h room o =
-      let n = stops.no_room.0 (full q.stop h) in
+      let n = stops.no_room.0 h in
       let x : List ℕ = datagram_in (drop q.at (drop k s)) n.len in
       let octets : Octets x =
       octets_take n.len (drop 4 (drop q.at (drop k s))) (octets_drop 4 (drop q.at (drop k s)) (octets_drop q.at (drop k s) (octets_drop k s o))) in
@@ -108,51 +99,13 @@ module _ (d e s : List ℕ) (k : ℕ) (t : State) (q : Place) (inside : k ≤ le
       let short = n.no_room in
       ⊎_elim (λ a. a) (λ a. absurd (omega (arith, a.1, enough, short, room))) (some_or_nothing d (drop k s) t q e listing_is)
 
+-- what is left, by what is told of it
+pub left_as : (begin : State) (s : List ℕ) (p : Progress) (rest : Rest) → Listed begin s p → p.rest ≡ rest → LeftAs rest (drop p.listed s)
+left_as begin s p rest h e = subst (λ (r : Rest). LeftAs r (drop p.listed s)) e h.left
+
 -- at the end no record is left
-pub end_listed : (begin : State) (s : List ℕ) (k : ℕ) (t : State) → k ≤ length s → length s ≤ k → Lines begin s k t → Listed begin s (progress k t false false)
-end_listed begin s k t inside h l = record { inside = inside; lines = l.0; text_is = l.1; left = λ _. sym (frame_short s k (omega (arith, h))) }
-
--- ---- octets moved to the front
-
--- in the buffer whose first i octets are replaced by those from an offset on, the next of these is still there
-module _ (d : List ℕ) (from n i : ℕ) (inside : from + n ≤ length d) (more : i < n) where
-  abbrev moving : List ℕ
-  moving = take n (drop from d)
-
-  long : length moving ≡ n
-  long = length-take-le n (drop from d) (rw length-drop (omega (arith, inside)))
-
-  next_octet : get_or (paste d 0 moving i) (from + i) 0 ≡ get_or moving i 0
-  next_octet =
-      let head = take 0 d ++ take i moving in
-      let short : i ≤ length moving = rw long (omega (arith, more)) in
-      let h : length head ≡ 0 + i = length_paste_head d 0 moving i (omega arith) short in
-      let at : from + i ≡ length head + from = omega (arith, h) in
-      let seam : 0 + i + from ≡ from + i = omega arith in
-      ap (λ (k : ℕ). get_or (paste d 0 moving i) k 0) at ∙ get_or-append-add head (drop (0 + i) d) from 0
-      ∙ get_or-drop (0 + i) d from 0 ∙ ap (λ (k : ℕ). get_or d k 0) seam ∙ sym (get_or-drop from d i 0) ∙ sym (get_or-take n (drop from d) i 0 more)
-
-  -- a turn of the loop
-  pub one_moved : (x : ℕ) → x ≡ get_or (paste d 0 moving i) (from + i) 0 → set (paste d 0 moving i) i x ≡ paste d 0 moving (i + 1)
-  one_moved x e =
-      let room : 0 + i < length d = omega (arith, inside, more) in
-      let short : i < length moving = rw long more in
-      rw (e, next_octet)
-      (ap (λ (k : ℕ). set (paste d 0 moving i) k (get_or moving i 0)) (sym (zero-add i)) ∙ paste-suc d 0 moving i 0 room short ∙ ap (paste d 0 moving) (sym (add-one i)))
-
--- all are moved
-pub all_moved : (d : List ℕ) (from n i : ℕ) → from + n ≤ length d → i ≡ n → paste d 0 (take n (drop from d)) i ≡ stored d 0 (take n (drop from d))
-all_moved d from n i inside e =
-    let l : length (take n (drop from d)) ≡ n = length-take-le n (drop from d) (rw length-drop (omega (arith, inside))) in
-    stored_pasted d 0 (take n (drop from d)) i (e ∙ sym l)
-
--- octets that stand at the front already
-pub front_stored : (d : List ℕ) (from end : ℕ) → from ≡ 0 → end ≤ length d → stored d 0 (take (end - from) (drop from d)) ≡ d
-unfolding stored
-front_stored d from end z h =
-    let e : end - 0 ≡ end = omega arith in
-    let l : length (take end d) ≡ end = length-take-le end d h in
-    rw (z, e) (rw (l, zero-add) (take-append-drop end d))
+pub end_listed : (begin : State) (s : List ℕ) (k : ℕ) (t : State) → k ≤ length s → length s ≤ k → Lines begin s k t → Listed begin s (progress k t Unfinished)
+end_listed begin s k t inside h l = record { inside = inside; lines = l.0; text_is = l.1; left = sym (frame_short s k (omega (arith, h))) }
 
 -- ---- the last lines
 

@@ -1,10 +1,11 @@
 -- A capture that is listed part by part. Assumes nothing.
-use Rattle.std.proofs.Common.{◌≡◌, ℕ, ◌+◌, ◌-◌, ◌<◌, ◌≤◌, Bool, true, false, List, [], ◌∷◌, ◌++◌, length, take, drop, sym, refl, ap, ◌∙◌, subst, append_assoc, append-nil, arith, drop-drop, length-drop, take_all, Option, None, Some, Err}
-use mathlib.Core.Bool.{true≢false}
+use Rattle.std.proofs.Common.{◌≡◌, ℕ, ◌+◌, ◌-◌, ◌<◌, ◌≤◌, List, [], ◌∷◌, ◌++◌, length, take, drop, sym, refl, ap, ◌∙◌, subst, append_assoc, append-nil, arith, drop-drop, length-drop, take_all, Option, None, Some, Err}
+use Rattle.std.specs.List.{copy_within}
 use Rattle.std.proofs.lemmas.List.{drop-take, length-take-le}
+use lib.Seq.{take-append_seam}
 use Rattle.xdr.specs.Numbers.{Octets}
 use Rattle.sflow.proofs.Slices.{octets_drop}
-use Rattle.xdr.specs.Writes.{afterwards, stored}
+use Rattle.xdr.specs.Writes.{afterwards}
 use Rattle.std.specs.Io.KnownBytes.{Consumes, Appends, IsAtEnd}
 use Rattle.std.proofs.KnownBytes.{Consumes-nil, Consumes-trans, Appends-nil, Appends-trans}
 use Rattle.listing.specs.Captures.{frame_of, list_all}
@@ -14,9 +15,11 @@ use Rattle.listing.specs.declared.State.{State}
 use Rattle.listing.specs.declared.Place.{Place}
 use Rattle.listing.proofs.Texts.{Fit, none, one, text_parts}
 use Rattle.lister.specs.declared.Progress.{Progress}
-use Rattle.lister.specs.Held.{FitRecords, Listed, Lists, ListsAll}
+use Rattle.lister.specs.declared.Rest.{Rest}
+use Rattle.lister.specs.declared.Rest.TheVariants.{OutputFailed}
+use Rattle.lister.specs.Held.{FitRecords, Lists, ListsAll}
 use Rattle.lister.proofs.Parts.{take_split}
-use Rattle.lister.proofs.Records.{Records, records_listed, front_of_stored, short_says, capture_parts, texts_parts, behind_parts, fit_parts, wrong_says, wrong_stays}
+use Rattle.lister.proofs.Records.{Records, records_listed, short_says, capture_parts, texts_parts, behind_parts, fit_parts, wrong_says, wrong_stays}
 
 fit_records : (xs : List (List ℕ)) → Fit xs → FitRecords xs
 fit_records [] none = tt
@@ -39,9 +42,9 @@ pub record So (begin : State) (s : List ℕ) (listed : ℕ) (state : State) (bef
 pub so_begins : (begin : State) (s : List ℕ) (w : Option (List ℕ)) → So begin s 0 begin w w
 so_begins begin s w = record { datagrams = []; fit = none; records_are = refl; state_is = refl; lines_are = Appends-nil w }
 
-pub so_lists : (begin : State) (s : List ℕ) (listed : ℕ) (state : State) (before after : Option (List ℕ)) (bad failed : Bool) → So begin s listed state before after
-    → Lists begin s (record { listed = listed; state = state; bad = bad; failed = failed }) before after
-so_lists begin s listed state before after bad failed h =
+pub so_lists : (begin : State) (s : List ℕ) (listed : ℕ) (state : State) (before after : Option (List ℕ)) (rest : Rest) → So begin s listed state before after
+    → Lists begin s (record { listed = listed; state = state; rest = rest }) before after
+so_lists begin s listed state before after rest h =
     record {
       datagrams = h.datagrams;
       fit = fit_records h.datagrams h.fit;
@@ -79,15 +82,14 @@ module _ (begin : State) (s : List ℕ) (k : ℕ) (t : State) (before between : 
         lines_are = subst (Appends before after) both_lines (Appends-trans before between after _ _ h.lines_are w);
       }
 
-  pub lists_failed : (after : Option (List ℕ)) (bad : Bool)
-      → Lists begin s (record { listed = k + q.at; state = q.state; bad = bad; failed = true }) before after
-  lists_failed after bad =
+  pub lists_failed : (after : Option (List ℕ)) → Lists begin s (record { listed = k + q.at; state = q.state; rest = OutputFailed }) before after
+  lists_failed after =
       record {
         datagrams = both;
         fit = fit_records both (fit_parts h.datagrams m.datagrams h.fit m.fit);
         records_are = both_records;
         state_is = both_counted;
-        lines_are = λ f. absurd (true≢false f);
+        lines_are = λ f. absurd (f refl);
       }
 
 -- a call lists the octets from an offset on
@@ -96,13 +98,6 @@ pub records_from : (d e s : List ℕ) (k : ℕ) (t : State) (q : Place) → k �
 records_from d e s k t q inside o h =
     let part : take (length s - k) (drop k s) ≡ drop k s = let l = length-drop k s in take_all (length s - k) (drop k s) (omega arith) in
     records_listed d e (drop k s) t q (octets_drop k s o) (h ∙ ap (λ (l : List ℕ). list_all d l t) part)
-
--- the same of where listing stands, put together
-pub listed_as : (begin : State) (s : List ℕ) (p q : Progress) → q ≡ p → Listed begin s p → Listed begin s q
-listed_as begin s p q e = subst (Listed begin s) (sym e)
-
-pub lists_as : (begin : State) (s : List ℕ) (p q : Progress) (before after : Option (List ℕ)) → q ≡ p → Lists begin s p before after → Lists begin s q before after
-lists_as begin s p q before after e = subst (λ (p : Progress). Lists begin s p before after) (sym e)
 
 -- ---- the input
 
@@ -128,7 +123,7 @@ module _ (input left before after : Option (List ℕ)) (state : State) (held : L
         written = h.written;
       }
 
-  pub streamed_listed : (p : Progress) (now : Option (List ℕ)) → Lists state held p after now → p.failed ≡ false
+  pub streamed_listed : (p : Progress) (now : Option (List ℕ)) → Lists state held p after now → (p.rest ≡ OutputFailed → ⊥)
       → Streamed input left before now p.state (drop p.listed held)
   streamed_listed p now l f =
       record {
@@ -213,12 +208,11 @@ rest_of_front s from end h =
 
 -- octets moved to the front
 pub moved_to_front : (s : List ℕ) (from end : ℕ) → from ≤ end → end ≤ length s
-    → take (end - from) (stored s 0 (take (end - from) (drop from s))) ≡ drop from (take end s)
+    → take (end - from) (copy_within s from end 0) ≡ drop from (take end s)
 moved_to_front s from end low high =
-    let part = take (end - from) (drop from s) in
-    let l = length-drop from s in
-    let long : length part ≡ end - from = length-take-le (end - from) (drop from s) (omega (arith, low, high)) in
-    ap (λ (k : ℕ). take k (stored s 0 part)) (sym long) ∙ front_of_stored s part ∙ sym (rest_of_front s from end low)
+    let long : length (take (end - from) (drop from s)) ≡ end - from = length-take-le (end - from) (drop from s) (rw length-drop (omega (arith, low, high))) in
+    ap (λ (k : ℕ). take k (copy_within s from end 0)) (sym long)
+    ∙ take-append_seam (take (end - from) (drop from s)) (drop (0 + (end - from)) s) ∙ sym (rest_of_front s from end low)
 
 -- an unfinished record leaves room in a buffer that takes the longest
 pub room_left : (s : List ℕ) (held : ℕ) → held ≤ length s → frame_of (take held s) ≡ Err Short → 65511 ≤ length s → held < length s

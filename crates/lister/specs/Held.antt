@@ -1,34 +1,23 @@
 -- What the program does with the octets that it holds (document 01, "Listing a capture").
-use Rattle.std.specs.Prelude.{ℕ, ◌≤◌, ◌≡◌, Bool, true, false, cond, List, [], ◌∷◌, ◌++◌, length, drop, Option, IfSome, ⊤, Err}
+use Rattle.std.specs.Prelude.{ℕ, ◌≤◌, ◌≡◌, List, [], ◌∷◌, ◌++◌, length, drop, Option, IfSome, ⊤, Err}
 use Rattle.std.specs.Io.KnownBytes.{Appends}
 use Rattle.listing.specs.declared.State.{State}
-use Rattle.listing.specs.declared.Stop.{Stop}
-use Rattle.listing.specs.declared.Stop.TheVariants.{GoesOn, NoRecord, Output, BadRecord}
 use Rattle.listing.specs.declared.FrameFault.TheVariants.{Short, Wrong}
 use Rattle.listing.specs.Captures.{frame_of}
 use Rattle.listing.specs.Texts.{nothing_listed, text_from, capture_of, texts_of, behind_all}
 use Rattle.lister.specs.declared.Progress.{Progress}
+use Rattle.lister.specs.declared.Rest.{Rest}
+use Rattle.lister.specs.declared.Rest.TheVariants.{Unfinished, Bad, OutputFailed}
 
 -- the room that takes the lines of any record
 abbrev pub room_for_any : ℕ
 room_for_any = 222796
 
--- where listing stands, put together
-abbrev pub progress_of : ℕ → State → Bool → Bool → Progress
-progress_of listed state bad failed = record { listed = listed; state = state; bad = bad; failed = failed }
-
--- why listing stopped: the output was full; at a bad record
-abbrev pub is_full : Stop → Bool
-is_full GoesOn = false
-is_full NoRecord = false
-is_full Output = true
-is_full BadRecord = false
-
-abbrev pub is_bad : Stop → Bool
-is_bad GoesOn = false
-is_bad NoRecord = false
-is_bad Output = false
-is_bad BadRecord = true
+-- what stands behind the records listed: no whole record, or a bad one; where the output failed, it is not said
+abbrev pub LeftAs : Rest → List ℕ → Type 0
+LeftAs Unfinished s = frame_of s ≡ Err Short
+LeftAs Bad s = frame_of s ≡ Err Wrong
+LeftAs OutputFailed s = ⊤
 
 -- octets s behind a state are listed up to an offset: some lines, and then the text of what is left behind the new state, are the text of all; where every line was
 -- taken, no whole record is left, and what is left is told to be bad exactly where it begins with a wrong mark or length
@@ -36,7 +25,7 @@ pub record Listed (begin : State) (s : List ℕ) (p : Progress) : Type 0 where
   pub inside : p.listed ≤ length s
   pub lines : List ℕ
   pub text_is : text_from begin s ≡ lines ++ text_from p.state (drop p.listed s)
-  pub left : p.failed ≡ false → frame_of (drop p.listed s) ≡ cond p.bad (Err Wrong) (Err Short)
+  pub left : LeftAs p.rest (drop p.listed s)
 
 -- each datagram is short enough for the length of its record
 abbrev pub FitRecords : List (List ℕ) → Type 0
@@ -49,7 +38,7 @@ pub record Lists (begin : State) (s : List ℕ) (p : Progress) (before after : O
   pub fit : FitRecords datagrams
   pub records_are : s ≡ capture_of datagrams ++ drop p.listed s
   pub state_is : p.state ≡ behind_all begin datagrams
-  pub lines_are : p.failed ≡ false → Appends before after (texts_of begin datagrams)
+  pub lines_are : (p.rest ≡ OutputFailed → ⊥) → Appends before after (texts_of begin datagrams)
 
 -- the longest record: four octets, and the longest datagram
 abbrev pub longest_record : ℕ

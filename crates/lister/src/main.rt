@@ -2,11 +2,10 @@
 // octets: it reads in large pieces, keeps at most an unfinished record, and writes in large pieces.
 #![tactic(auto)]
 
-ghost use Rattle.std.specs.Prelude.{◌-◌, ◌<◌, ◌≤◌, ◌≡◌, IfOk, IfSome, true, false, length, take, drop};
+ghost use Rattle.std.specs.Prelude.{◌-◌, ◌<◌, ◌≤◌, ◌≡◌, IfOk, IfSome, length, take, drop};
 ghost use Rattle.std.specs.Io.KnownBytes.{Appends, Consumes, IsAtEnd};
-ghost use Rattle.xdr.specs.Writes.{stored};
 ghost use Rattle.listing.specs.Texts.{nothing_listed, end_text};
-ghost use Rattle.lister.specs.Held.{room_for_any, progress_of, is_full, is_bad, Listed, Lists, longest_record, ListsAll};
+ghost use Rattle.lister.specs.Held.{room_for_any, Listed, Lists, longest_record, ListsAll};
 
 use listing::{State, Stop};
 use std::env::FillError;
@@ -81,58 +80,48 @@ fn write_some<W: Write>(writer: &mut W, part: &[u8]) -> io::Result<usize>
     Err(io::Error::from(ErrorKind::Interrupted))
 }
 
-// Writes the first n octets of the output and answers whether all were taken.
-fn flush<E: Eprint + AllocGlobal, W: Write>(rt: &E, writer: &mut W, output: &[u8], n: usize) -> bool
+// Writes the first n octets of the output. None where a write failed.
+fn flush<E: Eprint + AllocGlobal, W: Write>(
+    rt: &E,
+    writer: &mut W,
+    output: &[u8],
+    n: usize,
+) -> Option<()>
     requires { n ≤ length output.now }
-    ensures { result ≡ true → Appends (W.contents writer.old) (W.contents writer.new)
-        (take n output.now) }
+    ensures { IfSome result (λ _. Appends (W.contents writer.old) (W.contents writer.new)
+        (take n output.now)) }
 {
     let mut done = 0;
+    // goes on by what a write took: there is no index to count
     while done < n {
         match write_some(writer, &output[done..n]) {
             Ok(taken) => done += taken,
             Err(error) => {
                 fail(rt, "lister: cannot write to standard output", error);
-                return false;
+                return None;
             }
         }
     }
-    true
+    Some(())
 }
 
-// Where listing stands: how many of the held octets are listed, what was counted, whether what is left is a bad record, and whether the output failed.
-// `failed` is no error of its own: where the output failed, what was listed is still promised (`Listed`, `Lists`).
+// What stands behind the records that were listed.
+#[derive(Clone, Copy)]
+enum Rest {
+    // no whole record
+    Unfinished,
+    // a bad record
+    Bad,
+    // it is not known: the output failed, which is no error of its own, since what was listed is still promised (`Listed`, `Lists`)
+    OutputFailed,
+}
+
+// Where listing stands: how many of the held octets are listed, what was counted, and what is left.
 #[derive(Drop)]
 struct Progress {
     listed: usize,
     state: State,
-    bad: bool,
-    failed: bool,
-}
-
-fn stand_at(listed: usize, state: State, bad: bool, failed: bool) -> Progress
-    ensures { result ≡ progress_of listed state bad failed }
-{
-    Progress {
-        listed,
-        state,
-        bad,
-        failed,
-    }
-}
-
-// Whether listing stopped because the output was full.
-fn is_full(stop: Stop) -> bool
-    ensures { result ≡ is_full stop }
-{
-    matches!(stop, Stop::Output)
-}
-
-// Whether it stopped at a bad record.
-fn is_bad(stop: Stop) -> bool
-    ensures { result ≡ is_bad stop }
-{
-    matches!(stop, Stop::BadRecord)
+    rest: Rest,
 }
 
 // Lists all whole records held and writes their lines.
@@ -149,49 +138,48 @@ fn list_held<E: Eprint + AllocGlobal, W: Write>(
 {
     let mut listed = 0;
     let mut state = begin;
+    // goes on by what a call listed: there is no index to count
     while listed < s.len() {
         let p = listing::list_records(output, &s[listed..], state);
         listed += p.at;
         state = p.state;
-        if !flush(rt, writer, output, p.out) {
-            return stand_at(listed, state, false, true);
-        }
-        let stop = p.stop;
-        if !is_full(stop) {
-            return stand_at(listed, state, is_bad(stop), false);
-        }
+        let Some(()) = flush(rt, writer, output, p.out) else {
+            return Progress {
+                listed,
+                state,
+                rest: Rest::OutputFailed,
+            };
+        };
+        let rest = match p.stop {
+            Stop::Output => continue,
+            Stop::BadRecord => Rest::Bad,
+            _ => Rest::Unfinished,
+        };
+        return Progress {
+            listed,
+            state,
+            rest,
+        };
     }
-    stand_at(listed, state, false, false)
+    Progress {
+        listed,
+        state,
+        rest: Rest::Unfinished,
+    }
 }
 
-// Moves the octets between two offsets to the front, where they do not stand there already.
-fn shift(input: &mut [u8], from: usize, end: usize)
-    requires { (from ≤ end) × (end ≤ length input.old) }
-    ensures { input.new ≡ stored input.old 0 (take (end - from) (drop from input.old)) }
-{
-    if from == 0 {
-        return;
-    }
-    let n = end - from;
-    for i in 0..n {
-        input[i] = input[from + i];
-    }
-}
-
-// Writes what follows the last record, in front of the octets that are left, and answers whether all of it was taken.
+// Writes what follows the last record, in front of the octets that are left. None where a write failed.
 fn finish<E: Eprint + AllocGlobal, W: Write>(
     rt: &E,
     writer: &mut W,
     output: &mut [u8],
     state: State,
     rest: &[u8],
-) -> bool
-    ensures { result ≡ true → Appends (W.contents writer.old) (W.contents writer.new)
-        (end_text state rest.now) }
+) -> Option<()>
+    ensures { IfSome result (λ _. Appends (W.contents writer.old) (W.contents writer.new)
+        (end_text state rest.now)) }
 {
-    let Some(n) = listing::end_text(output, 0, state, rest) else {
-        return false;
-    };
+    let n = listing::end_text(output, 0, state, rest)?;
     flush(rt, writer, output, n)
 }
 
@@ -207,40 +195,37 @@ fn nothing_listed() -> State
     }
 }
 
-// Lists the input to its end or to a bad record, and answers whether every read and write was done.
+// Lists the input to its end or to a bad record. None where a read or a write failed.
 fn list_input<E: Eprint + AllocGlobal, R: Read, W: Write>(
     rt: &E,
     reader: &mut R,
     writer: &mut W,
     input: &mut [u8],
     output: &mut [u8],
-) -> bool
+) -> Option<()>
     requires { room_for_any ≤ length output.old }
-    ensures { result ≡ true → longest_record ≤ length input.old →
-        ListsAll (R.remaining reader.old) (W.contents writer.old) (W.contents writer.new) }
+    ensures { IfSome result (λ _. longest_record ≤ length input.old →
+        ListsAll (R.remaining reader.old) (W.contents writer.old) (W.contents writer.new)) }
 {
     let mut state = nothing_listed();
     let mut held = 0;
     for _ in 0..u64::MAX {
-        let Some(end) = fill(rt, reader, input, held) else {
-            return false;
-        };
+        let end = fill(rt, reader, input, held)?;
         if end == held {
             return finish(rt, writer, output, state, &input[..held]);
         }
         let p = list_held(rt, writer, output, &input[..end], state);
         let listed = p.listed;
         state = p.state;
-        if p.failed {
-            return false;
+        match p.rest {
+            Rest::Unfinished => {}
+            Rest::Bad => return finish(rt, writer, output, state, &input[listed..end]),
+            Rest::OutputFailed => return None,
         }
-        if p.bad {
-            return finish(rt, writer, output, state, &input[listed..end]);
-        }
-        shift(input, listed, end);
+        input.copy_within(listed..end, 0);
         held = end - listed;
     }
-    false
+    None
 }
 
 fn say<E: Eprint>(rt: &E, text: &str) {
@@ -250,11 +235,7 @@ fn say<E: Eprint>(rt: &E, text: &str) {
 // Whether the program was given an argument behind its name, of any length.
 fn has_arguments<E: Env>(rt: &E) -> bool {
     let mut first = [0u8; 1];
-    match rt.arg(1, &mut first) {
-        Ok(_) => true,
-        Err(FillError::TooLong) => true,
-        Err(FillError::NotPresent) => false,
-    }
+    !matches!(rt.arg(1, &mut first), Err(FillError::NotPresent))
 }
 
 fn main(rt: HostRuntime) {
@@ -276,5 +257,5 @@ fn main(rt: HostRuntime) {
     let mut writer = rt.stdout();
     let mut input = [0u8; 262144];
     let mut output = [0u8; 262144];
-    list_input(&rt, &mut reader, &mut writer, &mut input, &mut output);
+    let _ = list_input(&rt, &mut reader, &mut writer, &mut input, &mut output);
 }

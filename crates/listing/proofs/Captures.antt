@@ -33,27 +33,27 @@ module _ (s : List ℕ) (at : ℕ) (room : at + 4 ≤ length s) where
   unfolding frame_of
   frame_second p q = rw (le-leb _ _ enough, first, eq-eqb _ _ p, get_or-drop at s 1 0, ne_eqb _ _ q)
 
-  module _ (m n : ℕ) (p : get_or s at 0 ≡ 115) (q : get_or s (at + 1) 0 ≡ 70) (hi : m ≡ get_or s (at + 2) 0) (lo : n ≡ get_or s (at + 3) 0) where
-    given : length_in (drop at s) ≡ m * 256 + n
-    given = rw (get_or-drop at s 2 0, get_or-drop at s 3 0, hi, lo)
+  module _ (n : ℕ) (p : get_or s at 0 ≡ 115) (q : get_or s (at + 1) 0 ≡ 70) (h : n ≡ get_or s (at + 2) 0 * 256 + get_or s (at + 3) 0) where
+    given : length_in (drop at s) ≡ n
+    given = rw (get_or-drop at s 2 0, get_or-drop at s 3 0, h)
 
     -- a length over the limit
-    pub frame_long : 65507 < m * 256 + n → Err Wrong ≡ frame_of (drop at s)
+    pub frame_long : 65507 < n → Err Wrong ≡ frame_of (drop at s)
     unfolding frame_of
-    frame_long h = rw (given, le-leb _ _ enough, first, eq-eqb _ _ p, get_or-drop at s 1 0, eq-eqb _ _ q, lt-ltb _ _ h)
+    frame_long over = rw (given, le-leb _ _ enough, first, eq-eqb _ _ p, get_or-drop at s 1 0, eq-eqb _ _ q, lt-ltb _ _ over)
 
     -- fewer octets than the length says
-    pub frame_cut : m * 256 + n ≤ 65507 → length s < at + 4 + (m * 256 + n) → Err Short ≡ frame_of (drop at s)
+    pub frame_cut : n ≤ 65507 → length s < at + 4 + n → Err Short ≡ frame_of (drop at s)
     unfolding frame_of
-    frame_cut h g =
-        let l : length (drop at s) < 4 + (m * 256 + n) = rw length-drop (omega arith) in
-        rw (given, le-leb _ _ enough, first, eq-eqb _ _ p, get_or-drop at s 1 0, eq-eqb _ _ q, le-ltb _ _ h, lt-leb _ _ l)
+    frame_cut under g =
+        let l : length (drop at s) < 4 + n = rw length-drop (omega arith) in
+        rw (given, le-leb _ _ enough, first, eq-eqb _ _ p, get_or-drop at s 1 0, eq-eqb _ _ q, le-ltb _ _ under, lt-leb _ _ l)
 
-    pub frame_whole : m * 256 + n ≤ 65507 → at + 4 + (m * 256 + n) ≤ length s → Ok (m * 256 + n) ≡ frame_of (drop at s)
+    pub frame_whole : n ≤ 65507 → at + 4 + n ≤ length s → Ok n ≡ frame_of (drop at s)
     unfolding frame_of
-    frame_whole h g =
-        let l : 4 + (m * 256 + n) ≤ length (drop at s) = rw length-drop (omega arith) in
-        rw (given, le-leb _ _ enough, first, eq-eqb _ _ p, get_or-drop at s 1 0, eq-eqb _ _ q, le-ltb _ _ h, le-leb _ _ l)
+    frame_whole under g =
+        let l : 4 + n ≤ length (drop at s) = rw length-drop (omega arith) in
+        rw (given, le-leb _ _ enough, first, eq-eqb _ _ p, get_or-drop at s 1 0, eq-eqb _ _ q, le-ltb _ _ under, le-leb _ _ l)
 
 -- a whole record lies inside
 pub whole_inside : (s : List ℕ) (n : ℕ) → frame_of s ≡ Ok n → 4 + n ≤ length s

@@ -22,17 +22,20 @@ pub enum FrameFault {
 pub fn frame_at(s: &[u8], at: usize) -> Result<usize, FrameFault>
     ensures { result ≡ frame_of (drop at s.now) }
 {
-    if s.len() < at || s.len() - at < 4 {
+    let Some(room) = s.len().checked_sub(at) else {
+        return Err(FrameFault::Short);
+    };
+    if room < 4 {
         return Err(FrameFault::Short);
     }
     if s[at] != 115 || s[at + 1] != 70 {
         return Err(FrameFault::Wrong);
     }
-    let n = usize::from(s[at + 2]) * 256 + usize::from(s[at + 3]);
+    let n = xdr::pair_of(s[at + 2], s[at + 3]) as usize;
     if 65507 < n {
         return Err(FrameFault::Wrong);
     }
-    if s.len() - at - 4 < n {
+    if room - 4 < n {
         return Err(FrameFault::Short);
     }
     Ok(n)
@@ -82,8 +85,8 @@ fn count_accepted(t: State, taken: usize, n: u32) -> State
     State {
         offset: t.offset.wrapping_add(taken as u64),
         records: t.records.wrapping_add(1),
-        refused: t.refused,
         samples: t.samples.wrapping_add(n as u64),
+        ..t
     }
 }
 
@@ -95,7 +98,7 @@ fn count_refused(t: State, taken: usize) -> State
         offset: t.offset.wrapping_add(taken as u64),
         records: t.records.wrapping_add(1),
         refused: t.refused.wrapping_add(1),
-        samples: t.samples,
+        ..t
     }
 }
 
@@ -149,6 +152,7 @@ fn step(d: &mut [u8], s: &[u8], p: Place) -> Place
     }
 }
 
+// Whether listing stopped.
 fn is_over(stop: Stop) -> bool
     ensures { result ≡ is_over stop }
 {

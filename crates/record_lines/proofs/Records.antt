@@ -2,12 +2,12 @@
 use Prim.Native.Nat.{ℕ, zero, suc, ◌+◌, ◌-◌, ◌≤◌, ◌<◌}
 use native.Mathlib.Nat.{not-suc-le-zero}
 use native.Mathlib.Omega.{arith}
-use mathlib.Core.Path.{◌≡◌, refl, sym}
+use mathlib.Core.Path.{◌≡◌, refl, sym, ap}
 use mathlib.Core.Bool.{Bool, true, false, cond}
 use mathlib.Core.List.{List, [], ◌++◌}
 use Rattle.std.proofs.Common.{Some, None}
 use lib.ListN.{length}
-use lib.Dec.{ltb}
+use lib.Dec.{eqb, ltb}
 use borrow.Author.Tests.{le-leb, lt-leb}
 use Rattle.xdr.specs.Writes.{afterwards}
 use Rattle.sflow.specs.declared.Refusal.{Refusal}
@@ -15,7 +15,7 @@ use Rattle.sflow.specs.declared.Refusal.TheVariants.{Trailing}
 use Rattle.sflow.specs.Refusals.{refusal_number}
 use Rattle.reader.specs.declared.sample.Sample.{Sample}
 use Rattle.reader.specs.declared.datagram.Cursor.{Cursor}
-use Rattle.reader.specs.Datagrams.{step_at, walk, walk_on, datagram_read}
+use Rattle.reader.specs.Datagrams.{step_at, stepped, walk, walk_on, datagram_read}
 use Rattle.record_lines.specs.Lines.{Puts, sample_line, sample_lines, refused_line}
 use Rattle.record_lines.specs.Records.{lines_of, record_lines, room_of, answer_to, list_record}
 use Rattle.record_lines.specs.declared.Listed.TheVariants.{Refused as RefusedRecord}
@@ -23,9 +23,7 @@ use Rattle.record_lines.proofs.Puts.{then, puts_none, puts_as}
 use Rattle.std.specs.Prelude.{Result, Ok, Err}
 use Rattle.sflow.specs.declared.Refused.{Refused}
 use Rattle.sflow.specs.Decode.{refused_at}
-use Rattle.sflow.specs.Decode.{refused_at}
 use Rattle.reader.specs.declared.datagram.Head.{Head}
-use Rattle.std.specs.Prelude.{Result, Ok, Err}
 
 -- ---- lines one behind the other
 
@@ -62,6 +60,19 @@ pub walked_more : (s : List ℕ) (left at : ℕ) (x : Sample) (c : Cursor) → 0
 unfolding walk
 walked_more s zero at x c h e = absurd (not-suc-le-zero h)
 walked_more s (suc left) at x c h e = let f : suc left - 1 ≡ left = omega arith in rw (e, f)
+
+-- a step leaves one sample less
+pub one_less : (s : List ℕ) (c b : Cursor) (x : Sample) → step_at s c ≡ Ok (Some (x, b)) → b.left ≡ c.left - 1
+unfolding step_at
+one_less s c b x e = go (eqb c.left 0) (ltb c.at (length s)) _ e
+  where
+    go : (p q : Bool) (r : Result (Sample × ℕ) Refused) → cond p (cond q (Err (refused_at Trailing c.at)) (Ok None)) (stepped c.left r) ≡ Ok (Some (x, b)) → b.left ≡ c.left - 1
+    go true true r e = cc
+    go true false r e = cc
+    go false q (Ok y) e =
+        let h : ◌≡◌ {A = Sample × Cursor} (x, b) (y.0, record { at = y.1; left = c.left - 1 }) = cc in
+        ap (λ (k : Sample × Cursor). k.1.left) h
+    go false q (Err y) e = cc
 
 -- a step that finds the end, and one that is refused
 pub walked_over : (s : List ℕ) (left at : ℕ) → 0 < left → step_at s (record { at = at; left = left }) ≡ Ok None → walked s left at ≡ []

@@ -269,7 +269,7 @@ fn closing_text(
 }
 
 // What follows the last record: where the capture goes wrong there, the line that says so with its offset, then the last line; 123 octets of room are asked for.
-// The flag and the numbers stand apart, as C hands them to the function above this one.
+// The flag and the numbers stand apart, here and in what it calls: the reference names the function with these parameters.
 pub fn closing_lines(
     d: &mut [u8],
     at: usize,
@@ -281,10 +281,8 @@ pub fn closing_lines(
 ) -> Option<usize>
     ensures { afterwards result d.new ≡ write_line 123 d.old at (closing_lines bad offset records refused samples) }
 {
-    if d.len() < at {
-        return None;
-    }
-    if d.len() - at < 123 {
+    let room = d.len().checked_sub(at)?;
+    if room < 123 {
         return None;
     }
     Some(closing_text(d, at, bad, offset, records, refused, samples))
@@ -296,12 +294,11 @@ fn sample_lines(d: &mut [u8], at: usize, s: &[u8], first: usize, count: u32) -> 
     ensures { Puts d.old at (sample_lines (walk s.now count first).met) result d.new × (result ≤ at + 136 * count) }
 {
     let mut out = at;
-    let mut place = first;
-    for more in (0..count).rev() {
-        let cursor = Cursor {
-            at: place,
-            left: more + 1,
-        };
+    let mut cursor = Cursor {
+        at: first,
+        left: count,
+    };
+    for _ in 0..count {
         let Ok(step) = reader::datagram::next_sample(s, cursor) else {
             return out;
         };
@@ -309,7 +306,7 @@ fn sample_lines(d: &mut [u8], at: usize, s: &[u8], first: usize, count: u32) -> 
             return out;
         };
         out = sample_line(d, out, sample);
-        place = behind.at;
+        cursor = behind;
     }
     out
 }
