@@ -282,6 +282,7 @@ fn first_refusal(s: &[u8]) -> Result<(), CheckRefused>
     ensures { result ≡ first_broken (rule_check s.now) (rule_count s.now) }
 {
     let n = rules::rule_count(s);
+    // document 01 names this form: an outer loop with a label, left from the inner ones
     let mut found = Ok(());
     let mut rule = 0;
     'rules: for i in 1..n + 1 {

@@ -29,16 +29,6 @@ behind_nothing zero d = filled_none d
 behind_nothing (suc n) [] = filled_none []
 behind_nothing (suc n) (x ∷ d) = ap (λ (r : List ℕ). x ∷ r) (behind_nothing n d)
 
--- zeros that are left to put, up to 38 numbers: none, and after one of them
-pub zeros_end : (d : List ℕ) (i : ℕ) → 38 ≤ i → filled_behind i (replicate (38 - i) 0) d ≡ d
-zeros_end d i h = let none : 38 - i ≡ 0 = omega arith in rw none (behind_nothing i d)
-
-pub zeros_step : (d e : List ℕ) (i : ℕ) → i < 38 → e ≡ filled_behind i (0 ∷ []) d
-    → filled_behind (i + 1) (replicate (38 - (i + 1)) 0) e ≡ filled_behind i (replicate (38 - i) 0) d
-zeros_step d e i h p =
-    let n : 38 - i ≡ suc (38 - (i + 1)) = omega arith in
-    rw (p, n) (behind_both i (0 ∷ []) (replicate (38 - (i + 1)) 0) d)
-
 -- words that are left to put: all, none, and after one of them
 pub words_start : (s d : List ℕ) (first count n : ℕ)
     → filled_behind (n + 0) (numbers_at s first (replicate (count - 0) 4)) d ≡ filled_behind n (numbers_at s first (replicate count 4)) d

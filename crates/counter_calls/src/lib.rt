@@ -20,7 +20,8 @@ fn put(v: u64, n: usize, out: &mut [u64])
     out[n] = v;
 }
 
-// Puts so many words, all of them there, behind the first n numbers of an array.
+// Puts so many words, all of them there, behind the first n numbers of an array. Words go from octets to numbers one by one: the reader hands on where the
+// next begins.
 fn put_words(s: &[u8], first: usize, count: usize, n: usize, out: &mut [u64])
     requires { (first + 4 * count ≤ length s.now) × (n + count ≤ 38) }
     ensures { out.new ≡ filled_behind n (numbers_at s.now first (replicate count 4)) out.old }
@@ -119,7 +120,7 @@ fn put_vlan(s: &[u8], at: usize, out: &mut [u64])
     put_words(part, 12, 4, 3, out);
 }
 
-// Puts the counters of a version, all of them there.
+// Puts the counters of a version, all of them there. The version is a number, as in the octets, and may be any.
 fn put_version(s: &[u8], at: usize, version: u32, out: &mut [u64])
     requires { at + total_width (chosen [] counters_versions version) ≤ length s.now }
     ensures { out.new ≡ filled_behind 1 (numbers_at s.now at (chosen [] counters_versions version)) out.old }
@@ -134,7 +135,7 @@ fn put_version(s: &[u8], at: usize, version: u32, out: &mut [u64])
     }
 }
 
-// How many counters a version has.
+// How many counters a version has: none where it is no version.
 fn counter_count(version: u32) -> usize
     ensures { (result ≡ length (chosen [] counters_versions version)) × (result ≤ 37) }
 {
@@ -148,14 +149,14 @@ fn counter_count(version: u32) -> usize
     }
 }
 
+const ZEROS: [u64; 38] = [0; 38];
+
 // Puts zeros behind the first n numbers of an array, up to 38 numbers.
 fn put_zeros(n: usize, out: &mut [u64])
     requires { n ≤ 38 }
     ensures { out.new ≡ filled_behind n (replicate (38 - n) 0) out.old }
 {
-    for i in n..38 {
-        put(0, i, out);
-    }
+    numbers::fill_behind(out, n, &ZEROS[n..]);
 }
 
 // Puts how many counters a body at its version word has to the front of an array, then every counter, zeros behind them up to 38 numbers;

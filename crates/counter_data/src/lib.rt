@@ -33,7 +33,7 @@ pub const VG_WIDTHS: [u8; 33] =
 
 pub const VLAN_WIDTHS: [u8; 6] = *b"\x04\x08\x04\x04\x04\x04";
 
-// How many octets the counters of a version take: none where it is no version.
+// How many octets the counters of a version take: none where it is no version. Each is a constant: the widths could only be added up at every call.
 pub fn body_size(version: u32) -> usize
     ensures { result ≡ total_width (chosen [] counters_versions version) }
 {
@@ -47,7 +47,8 @@ pub fn body_size(version: u32) -> usize
     }
 }
 
-// The counters of a version by their widths, for the place where they are cut short.
+// The counters of a version by their widths, for the place where they are cut short. The version is one of 1 to 7 here, and stays a number: a type for it
+// would be built at every call.
 fn pass_each(s: &[u8], at: usize, version: u32) -> Result<usize, Refused>
     ensures { result ≡ as_passed (decode (fixed (chosen [] counters_versions version)) s.now at) }
 {

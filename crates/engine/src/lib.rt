@@ -34,7 +34,7 @@ struct EngineState {
 pub const ATTRIBUTES: usize = 23;
 
 // A mask and a value at each attribute's number: two arrays, as C gets them.
-#[derive(Clone, Copy)]
+#[derive(Clone, Copy, Default)]
 pub struct FlowKey {
     pub masks: [u32; ATTRIBUTES],
     pub values: [u32; ATTRIBUTES],
@@ -78,6 +78,7 @@ impl From<EngineRefusal> for u32 {
 }
 
 // Document 01's number of an answer: 1 to 4, 18, or the check's.
+// The C interface gives a number for `Ok` too, which a refusal's `From` could not.
 pub fn answer_number(answer: &Result<EngineResult, EngineRefusal>) -> u32
     ensures { result ≡ engine_number answer.now }
 {
@@ -241,10 +242,7 @@ impl FlowKey {
 fn key_of(s: &[u8], a: Attributes, queue: &Stack<MAX_ITEMS>) -> FlowKey
     ensures { result ≡ key_of (queued (rule_of s.now) (attribute a) queue.now) }
 {
-    let mut key = FlowKey {
-        masks: [0; ATTRIBUTES],
-        values: [0; ATTRIBUTES],
-    };
+    let mut key = FlowKey::default();
     let items = queue.oldest_first();
     for &i in items {
         key.put(item_of(s, a, i));
@@ -278,9 +276,9 @@ fn run_accepted(s: &[u8], x: &[u8]) -> Result<EngineResult, EngineRefusal>
     requires { check s.now ≡ accepted }
     ensures { result ≡ of_sample s.now x.now (flow_in x.now) }
 {
-    let Ok((found, end)) = reader::sample::read_sample(x, 0) else {
-        return Err(EngineRefusal::NotOneFlowSample);
-    };
+    let (found, end) = reader::sample::read_sample(x, 0).map_err(
+        |_| EngineRefusal::NotOneFlowSample,
+    )?;
     if end != x.len() {
         return Err(EngineRefusal::NotOneFlowSample);
     }

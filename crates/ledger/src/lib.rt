@@ -45,6 +45,7 @@ pub enum EntryRefusal {
 }
 
 // Document 01's number of an answer; 0 where the sample is entered.
+// The C interface gives a number for `Ok` too, which a refusal's `From` could not.
 pub fn answer_number(answer: Result<(), EntryRefusal>) -> u32
     ensures { result ≡ entry_number answer }
 {
@@ -87,7 +88,7 @@ fn same_address(x: Address, y: Address) -> bool
 {
     let p = x.octets;
     let q = y.octets;
-    x.kind == y.kind && p.a == q.a && (x.kind == 1 || p.b == q.b && p.c == q.c && p.d == q.d)
+    x.kind == y.kind && p.a == q.a && (x.kind == 1 || p == q)
 }
 
 // Whether a sample is of a row's source.
@@ -136,12 +137,11 @@ fn go_on(row: Row, x: FlowEntry) -> Result<Row, EntryRefusal>
     let more = words.sample_pool.wrapping_sub(row.sample_pool);
     Ok(Row {
         used: true,
-        agent: row.agent,
-        source_id: row.source_id,
         sequence_number: words.sequence_number,
         sample_pool: words.sample_pool,
         lost_total: row.lost_total.wrapping_add((step - 1) as u64),
         pool_total: row.pool_total.wrapping_add(more as u64),
+        ..row
     })
 }
 

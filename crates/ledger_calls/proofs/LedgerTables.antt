@@ -1,8 +1,9 @@
 -- Laws of the ledger's table as numbers.
-use Rattle.std.proofs.Common.{◌≡◌, ℕ, zero, suc, ◌+◌, ◌*◌, ◌-◌, ◌≤◌, ◌<◌, Bool, true, false, not, eqb, Some, None, Ok, Err, List, length, get_or, set, take, drop, refl, ap, sym, ◌∙◌, arith, le-leb, lt-ltb, eq-eqb, ne_eqb, length-drop, get_or-set_same}
+use Rattle.std.proofs.Common.{◌≡◌, ℕ, zero, suc, ◌+◌, ◌*◌, ◌-◌, ◌≤◌, ◌<◌, Bool, true, false, not, eqb, Option, Some, None, Ok, Err, List, length, get_or, set, take, drop, refl, ap, sym, ◌∙◌, arith, le-leb, lt-ltb, eq-eqb, ne_eqb, length-drop, get_or-set_same}
 use borrow.Author.Tests.{lt-leb}
 use lib.Seq.{drop-drop, get_or-drop}
 use borrow.Rule.Slice.PartMut.{mid_of, put_mid}
+use Rattle.std.specs.Prelude.{MatchOption}
 use Rattle.std.specs.List.{position, position_or_len}
 use Rattle.std.specs.Result.{result_and}
 use Rattle.std.proofs.lemmas.List.Sums.{position_or_len_is}
@@ -34,39 +35,34 @@ row_at (suc k) (suc i) ns h =
 
 -- ---- the search
 
-module _ (ns : List ℕ) (i : ℕ) (h : i < 64) where
-  -- a row read from a lent part
-  pub row_read : (p : Row → Bool) (row : Row) (b : Bool) → row ≡ row_in (take (length ns - 11 * i) (drop (11 * i) ns)) → p row ≡ b → p (get_or (rows_in 64 ns) i free_row) ≡ b
-  row_read p row b e q = ap p (row_at 64 i ns h ∙ sym (e ∙ ap row_in (part_is (11 * i) ns))) ∙ q
+-- the first number of a row tells whether it is free
+used_at : (ns : List ℕ) (i : ℕ) (b : Bool) → eqb (get_or ns (11 * i) 0) 0 ≡ b → is_free (row_in (drop (11 * i) ns)) ≡ not (not b)
+used_at ns i b e =
+    let same : 11 * i + 0 ≡ 11 * i = omega arith in
+    let place : get_or (drop (11 * i) ns) 0 0 ≡ get_or ns (11 * i) 0 = get_or-drop (11 * i) ns 0 0 ∙ ap (λ (n : ℕ). get_or ns n 0) same in
+    rw (place, e) refl
 
-  used_at : (b : Bool) → eqb (get_or ns (11 * i) 0) 0 ≡ b → is_free (get_or (rows_in 64 ns) i free_row) ≡ not (not b)
-  used_at b e =
-      let same : 11 * i + 0 ≡ 11 * i = omega arith in
-      let place : get_or (drop (11 * i) ns) 0 0 ≡ get_or ns (11 * i) 0 = get_or-drop (11 * i) ns 0 0 ∙ ap (λ (n : ℕ). get_or ns n 0) same in
-      rw (row_at 64 i ns h, place, e) refl
+pub free_at : (ns : List ℕ) (i : ℕ) → get_or ns (11 * i) 0 ≡ 0 → is_free (row_in (drop (11 * i) ns)) ≡ true
+free_at ns i e = used_at ns i true (eq-eqb (get_or ns (11 * i) 0) 0 e)
 
-  pub free_at : get_or ns (11 * i) 0 ≡ 0 → is_free (get_or (rows_in 64 ns) i free_row) ≡ true
-  free_at e = used_at true (eq-eqb (get_or ns (11 * i) 0) 0 e)
+pub not_free_at : (ns : List ℕ) (i : ℕ) → (get_or ns (11 * i) 0 ≡ 0 → ⊥) → is_free (row_in (drop (11 * i) ns)) ≡ false
+not_free_at ns i n = used_at ns i false (ne_eqb (get_or ns (11 * i) 0) 0 n)
 
-  pub not_free_at : (get_or ns (11 * i) 0 ≡ 0 → ⊥) → is_free (get_or (rows_in 64 ns) i free_row) ≡ false
-  not_free_at n = used_at false (ne_eqb (get_or ns (11 * i) 0) 0 n)
-
--- no row before row i passes
-abbrev pub NoneBefore : (Row → Bool) → List ℕ → ℕ → Type 0
-NoneBefore p ns i = (k : ℕ) → k < i → p (get_or (rows_in 64 ns) k free_row) ≡ false
-
-module _ (p : Row → Bool) (ns : List ℕ) where
-  pub found : (i : ℕ) → i < 64 → NoneBefore p ns i → p (get_or (rows_in 64 ns) i free_row) ≡ true → Some i ≡ position p (rows_in 64 ns)
-  found i h before e =
-      let long = rows_length 64 ns in
-      let at : position_or_len p (rows_in 64 ns) ≡ i = position_or_len_is p (rows_in 64 ns) i free_row (omega arith) before (λ _. e) in
-      rw (at, long, lt-ltb i 64 h)
-
-  pub not_found : NoneBefore p ns 64 → None ≡ position p (rows_in 64 ns)
-  not_found before =
-      let long = rows_length 64 ns in
-      let at : position_or_len p (rows_in 64 ns) ≡ 64 = position_or_len_is p (rows_in 64 ns) 64 free_row (omega arith) before (λ q. absurd (omega arith)) in
-      rw (at, long)
+-- the first of the 64 rows that passes is the one that `position` tells
+pub found_first : (p : Row → Bool) (ns : List ℕ) (r : Option ℕ)
+    → MatchOption r ((k : ℕ) → 0 ≤ k → k < 64 → p (row_in (drop (11 * k) ns)) ≡ false)
+    (λ i. (0 ≤ i) × (i < 64) × (p (row_in (drop (11 * i) ns)) ≡ true) × ((k : ℕ) → 0 ≤ k → k < i → p (row_in (drop (11 * k) ns)) ≡ false))
+    → r ≡ position p (rows_in 64 ns)
+found_first p ns None h =
+    let long = rows_length 64 ns in
+    let at : position_or_len p (rows_in 64 ns) ≡ 64 = position_or_len_is p (rows_in 64 ns) 64 free_row (omega arith)
+    (λ k l. ap p (row_at 64 k ns (omega arith)) ∙ h k (omega arith) (omega arith)) (λ q. absurd (omega arith)) in
+    rw (at, long)
+found_first p ns (Some i) h =
+    let long = rows_length 64 ns in
+    let at : position_or_len p (rows_in 64 ns) ≡ i = position_or_len_is p (rows_in 64 ns) i free_row (omega arith)
+    (λ k l. ap p (row_at 64 k ns (omega arith)) ∙ h.3 k (omega arith) l) (λ _. ap p (row_at 64 i ns h.1) ∙ h.2) in
+    rw (at, long, lt-ltb i 64 h.1)
 
 -- ---- a row brought up to date
 

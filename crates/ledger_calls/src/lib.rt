@@ -74,18 +74,21 @@ fn put_row(out: &mut [u64], row: Row)
     fill(out, &numbers);
 }
 
+// Whether row i is in use for a sample's source.
+fn is_own(table: &[u64], i: usize, x: FlowEntry) -> bool
+    requires { (704 ≤ length table.now) × (i < 64) }
+    ensures { result ≡ is_of (source_of x) (row_in (drop (11 * i) table.now)) }
+{
+    let row = row_in(&table[11 * i..]);
+    ledger::is_of(row, x)
+}
+
 // The lowest row of a sample's source.
 fn own_row(table: &[u64], x: FlowEntry) -> Option<usize>
     requires { 704 ≤ length table.now }
     ensures { result ≡ position (is_of (source_of x)) (rows_in 64 table.now) }
 {
-    for i in 0..ROWS {
-        let row = row_in(&table[11 * i..]);
-        if ledger::is_of(row, x) {
-            return Some(i);
-        }
-    }
-    None
+    (0..ROWS).find(|&i| is_own(table, i, x))
 }
 
 // The lowest free row.
@@ -93,12 +96,7 @@ fn first_free(table: &[u64]) -> Option<usize>
     requires { 704 ≤ length table.now }
     ensures { result ≡ position is_free (rows_in 64 table.now) }
 {
-    for i in 0..ROWS {
-        if table[11 * i] == 0 {
-            return Some(i);
-        }
-    }
-    None
+    (0..ROWS).find(|&i| table[11 * i] == 0)
 }
 
 // The row that a sample goes to: its source's lowest, else the lowest free one.

@@ -1,10 +1,11 @@
-use borrow.Author.Rules.{rules}
-use mathlib.Core.Path.{sym, ◌∙◌}
-use Rattle.counter_calls.proofs.CounterRuns.{zeros_end, zeros_step}
+use Rattle.std.proofs.Common.{ℕ, List, replicate, ap, ◌∙◌}
+use Rattle.std.proofs.lemmas.List.{drop-replicate}
+use Rattle.numbers.specs.Reports.{filled_behind}
+use Rattle.numbers.proofs.Reports.{part_is}
 use Rattle.counter_calls.proofs.put_zeros.Goals as goal
 
-pub loop-i-preserved : goal.loop-i-preserved
-loop-i-preserved c = (search rules, zeros_step _ _ _ c.loop-i-test.true c.put.ensures ∙ c.loop-i.invariant.1)
-
 pub returns : goal.returns
-returns c = sym (zeros_end _ _ c.loop-i-test.false) ∙ c.loop-i.invariant.1
+returns c =
+    let n = c.args.n in
+    c.fill_behind.ensures
+    ∙ ap (λ (xs : List ℕ). filled_behind n xs c.args.out.now) (part_is n (replicate 38 0) ∙ drop-replicate n 38 0)

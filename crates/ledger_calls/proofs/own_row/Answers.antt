@@ -1,19 +1,15 @@
-use Rattle.std.proofs.Common.{true, false, below_more, arith, sym, ◌∙◌}
+use Rattle.std.proofs.Common.{◌≡◌, ◌*◌, rules, true, false, drop}
+use Rattle.std.proofs.lemmas.Iterator.{first_from_Range}
 use Rattle.ledger.specs.Ledger.{source_of, is_of}
-use Rattle.ledger_calls.proofs.LedgerTables.{row_read, found, not_found}
+use Rattle.ledger_calls.specs.LedgerTable.{row_in}
+use Rattle.ledger_calls.proofs.LedgerTables.{found_first}
 use Rattle.ledger_calls.proofs.own_row.Goals as goal
 
-pub returns-then-is_of : goal.returns-then-is_of
-returns-then-is_of c =
-    let p = is_of (source_of c.args.x) in
-    found p c.args.table.now c.loop-i.i c.loop-i-test.true c.loop-i.invariant
-    (row_read c.args.table.now c.loop-i.i c.loop-i-test.true p c.row_in-row.result true c.row_in-row.ensures (sym c.is_of.ensures ∙ c.if-is_of.true))
-
-pub loop-i-preserved : goal.loop-i-preserved
-loop-i-preserved c =
-    let p = is_of (source_of c.args.x) in
-    below_more _ _ c.loop-i.invariant
-    (row_read c.args.table.now c.loop-i.i c.loop-i-test.true p c.row_in-row.result false c.row_in-row.ensures (sym c.is_of.ensures ∙ c.if-is_of.false))
-
 pub returns : goal.returns
-returns c = not_found (is_of (source_of c.args.x)) c.args.table.now (λ k h. c.loop-i.invariant k (omega arith))
+returns c =
+    let ns = c.args.table.now in
+    let p = is_of (source_of c.args.x) in
+    found_first p ns c.find.result
+    (first_from_Range _ _ _ _ (λ i. p (row_in (drop (11 * i) ns)) ≡ true) (λ i. p (row_in (drop (11 * i) ns)) ≡ false) c.find.ensures.ran
+    (λ i q k. search rules)
+    (λ i q k. (search rules, search rules)))
