@@ -12,10 +12,9 @@ use reader::sample::{CountersSample, FlowSample, Sample, SampleValues};
 use std::io;
 use std::io::{Read, Write};
 
-// What a turn met: the end of the input, or a datagram that is not accepted, or one that was written again with the same octets or with others.
+// What became of a datagram: it is not accepted, or it was written again with the same octets or with others.
 #[derive(Clone, Copy)]
 enum Outcome {
-    Ended,
     Refused,
     Equal,
     Different,
@@ -199,13 +198,11 @@ fn datagram(s: &[u8]) -> Outcome {
     }
 }
 
-// Reads one datagram and writes it again.
-fn turn<R: Read>(input: &mut R) -> Outcome {
+// Reads one datagram and writes it again; none at the end of the input.
+fn turn<R: Read>(input: &mut R) -> Option<Outcome> {
     let mut room = vector_io::room();
-    let Some(n) = vector_io::read_record(input, &mut room) else {
-        return Outcome::Ended;
-    };
-    datagram(vector_io::part(&room, 0, n))
+    let n = vector_io::read_record(input, &mut room)?;
+    Some(datagram(vector_io::part(&room, 0, n)))
 }
 
 fn report<W: Write>(out: &mut W, accepted: u64, equal: u64, different: u64) -> io::Result<()> {
@@ -220,8 +217,10 @@ fn main(rt: HostRuntime) -> io::Result<()> {
     let mut equal = 0u64;
     let mut different = 0u64;
     for _ in 0..u64::MAX {
-        match turn(&mut input) {
-            Outcome::Ended => return report(&mut out, equal + different, equal, different),
+        let Some(outcome) = turn(&mut input) else {
+            return report(&mut out, equal + different, equal, different);
+        };
+        match outcome {
             Outcome::Refused => {}
             Outcome::Equal => equal += 1,
             Outcome::Different => different += 1,
