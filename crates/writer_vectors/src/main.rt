@@ -126,37 +126,26 @@ fn append_values(out: &mut [u8], length: usize, s: &[u8], x: Sample, end: usize)
     }
 }
 
-// Appends a sample, as values or as octets.
-fn append(
-    out: &mut [u8],
-    length: usize,
-    s: &[u8],
-    x: Sample,
-    end: usize,
-    by_values: bool,
-) -> Option<usize> {
-    if by_values {
-        return append_values(out, length, s, x, end);
-    }
-    let octets = vector_io::part(s, x.offset, end);
-    writer::append_octets(out, 65507, length, octets).ok()
+// Appends a sample as octets.
+fn append_octets(out: &mut [u8], length: usize, s: &[u8], x: Sample, end: usize) -> Option<usize> {
+    writer::append_octets(out, 65507, length, vector_io::part(s, x.offset, end)).ok()
 }
 
-// Appends so many samples of a datagram.
-fn append_samples(
+// Appends the samples of a datagram, each by a function that appends one.
+fn append_samples<F: Fn(&mut [u8], usize, &[u8], Sample, usize) -> Option<usize>>(
     out: &mut [u8],
     start: usize,
     s: &[u8],
     list: Entries,
-    by_values: bool,
-) -> Option<usize> {
+    append: F,
+) -> Option<usize>
+    requires { F.IsAlwaysCallable append }
+{
     let mut length = start;
     let mut at = list.at;
     for _ in 0..list.count {
-        let Ok((x, end)) = reader::sample::read_sample(s, at) else {
-            return None;
-        };
-        length = append(out, length, s, x, end, by_values)?;
+        let (x, end) = reader::sample::read_sample(s, at).ok()?;
+        length = append(out, length, s, x, end)?;
         at = end;
     }
     Some(length)
@@ -169,8 +158,14 @@ fn cleared() -> [u8; 65507]
     [165; 65507]
 }
 
-// Writes a datagram again and answers whether it came out the same.
-fn again(s: &[u8], head: Head, by_values: bool) -> bool {
+// Writes a datagram again, each sample by a function that appends one, and answers whether it came out the same.
+fn again<F: Fn(&mut [u8], usize, &[u8], Sample, usize) -> Option<usize>>(
+    s: &[u8],
+    head: Head,
+    append: F,
+) -> bool
+    requires { F.IsAlwaysCallable append }
+{
     let mut out = cleared();
     let Ok(start) = writer::start(
         &mut out,
@@ -181,7 +176,7 @@ fn again(s: &[u8], head: Head, by_values: bool) -> bool {
     ) else {
         return false;
     };
-    let Some(length) = append_samples(&mut out, start, s, head.samples, by_values) else {
+    let Some(length) = append_samples(&mut out, start, s, head.samples, append) else {
         return false;
     };
     length == s.len() && check::same(vector_io::part(&out, 0, length), s)
@@ -191,7 +186,7 @@ fn datagram(s: &[u8]) -> Outcome {
     let Ok(head) = reader::datagram::read(s) else {
         return Outcome::Refused;
     };
-    if again(s, head, false) && again(s, head, true) {
+    if again(s, head, append_octets) && again(s, head, append_values) {
         Outcome::Equal
     } else {
         Outcome::Different
