@@ -40,34 +40,25 @@ pub fn read_record<R: Read>(input: &mut R, buffer: &mut [u8]) -> Option<usize>
     Some(n)
 }
 
-// The octets between two places, as far as they are there.
-pub fn part(s: &[u8], at: usize, end: usize) -> &[u8]
-    ensures { result.now ≡ take (end - at) (drop at s.now) }
+// So many items of a list, from a place on and as far as they are there.
+fn some_of<T>(items: &[T], at: usize, count: usize) -> &[T]
+    ensures { result.now ≡ take count (drop at items.now) }
 {
-    if s.len() < at {
-        return &s[..0];
+    if items.len() < at {
+        return &items[..0];
     }
-    if end < at {
-        return &s[..0];
-    }
-    if s.len() < end {
-        return &s[at..];
-    }
-    &s[at..end]
-}
-
-// So many numbers of a list, from a place on and as far as they are there.
-fn some_of(numbers: &[u64], at: usize, count: usize) -> &[u64]
-    ensures { result.now ≡ take count (drop at numbers.now) }
-{
-    if numbers.len() < at {
-        return &numbers[..0];
-    }
-    let rest = &numbers[at..];
+    let rest = &items[at..];
     if rest.len() < count {
         return rest;
     }
     &rest[..count]
+}
+
+// The octets between two places, as far as they are there.
+pub fn part(s: &[u8], at: usize, end: usize) -> &[u8]
+    ensures { result.now ≡ take (end - at) (drop at s.now) }
+{
+    some_of(s, at, end.saturating_sub(at))
 }
 
 // Writes a text and behind it so many numbers of a list, from a place on and as far as they are there, a space before each.
