@@ -5,7 +5,7 @@
 use packet::Attributes;
 use reader::sample::SampleValues;
 use std::io;
-use std::io::{Read, Write};
+use std::io::Write;
 
 fn attributes<W: Write>(out: &mut W, a: Attributes) -> io::Result<()> {
     vector_io::line(
@@ -44,23 +44,8 @@ fn vector<W: Write>(out: &mut W, s: &[u8]) -> io::Result<()> {
     }
 }
 
-// Reads one vector and answers whether there was one.
-fn turn<R: Read, W: Write>(input: &mut R, out: &mut W) -> io::Result<bool> {
-    let mut room = vector_io::room();
-    let Some(n) = vector_io::read_record(input, &mut room) else {
-        return Ok(false);
-    };
-    vector(out, vector_io::part(&room, 0, n))?;
-    Ok(true)
-}
-
 fn main(rt: HostRuntime) -> io::Result<()> {
     let mut input = rt.stdin();
     let mut out = rt.stdout();
-    for _ in 0..u64::MAX {
-        if !turn(&mut input, &mut out)? {
-            return Ok(());
-        }
-    }
-    Ok(())
+    vector_io::each_record(&mut input, &mut out, vector)
 }

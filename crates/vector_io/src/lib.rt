@@ -2,9 +2,9 @@
 // What a writer then holds is said where its octets are known; of what a system call reads or writes a contract can say nothing.
 #![tactic(auto)]
 
-ghost use Rattle.std.specs.Prelude.{◌≡◌, ◌-◌, ◌++◌, OnOk, length, take, drop, replicate};
+ghost use Rattle.std.specs.Prelude.{ℕ, List, Option, ◌≡◌, ◌-◌, ◌++◌, OnOk, length, take, drop, replicate};
 ghost use Rattle.std.specs.Io.KnownBytes.{Appends};
-ghost use Rattle.vector_io.specs.Records.{ReadInto, TakenFrom};
+ghost use Rattle.vector_io.specs.Records.{ReadInto, TakenFrom, EachRecord};
 ghost use Rattle.vector_io.specs.Texts.{spaced, line_of, refusal_line};
 
 use std::io;
@@ -103,4 +103,23 @@ pub fn refused<W: Write>(out: &mut W, number: u32, at: usize) -> io::Result<()>
 {
     show(out, b"refused", &[number as u64])?;
     line(out, b" at", &[at as u64])
+}
+
+// Calls a function with an output and each record of the input, one behind the other, until the input ends or a call fails.
+pub fn each_record<R: Read, W: Write, F: Fn(&mut W, &[u8]) -> io::Result<()>>(
+    input: &mut R,
+    out: &mut W,
+    step: F,
+) -> io::Result<()>
+    requires { F.IsAlwaysCallable step }
+    ensures { OnOk result ((after : Option (List ℕ)) × EachRecord (F.post step) (R.remaining input.old) out.old after out.new) }
+{
+    let mut buffer = room();
+    for _ in 0..u64::MAX {
+        let Some(n) = read_record(input, &mut buffer) else {
+            return Ok(());
+        };
+        step(out, part(&buffer, 0, n))?;
+    }
+    Ok(())
 }
