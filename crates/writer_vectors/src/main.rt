@@ -20,7 +20,8 @@ enum Outcome {
     Different,
 }
 
-// The functions that append answer the new length, or none where the writer refused.
+// The functions that append answer the new length, or none where the writer refused. The buffer and its length stand side by side, as the writer takes
+// them and gives them back.
 
 // Appends a flow sample of a datagram with a sampled header, and its extended entries as octets.
 fn append_header(
@@ -73,7 +74,8 @@ fn append_flow(
     }
 }
 
-// Appends a counter sample: its words, its version and the first numbers of a list, so many as the version has.
+// Appends a counter sample: its words, its version, which the writer takes as a number and may refuse, and the first numbers of a list, so many as
+// the version has.
 fn append_numbers(
     out: &mut [u8],
     length: usize,
