@@ -3,7 +3,7 @@
 #![tactic(auto)]
 
 use packet::Attributes;
-use reader::sample::SampleValues;
+use reader::sample::{FlowSample, SampleValues};
 use std::io;
 use std::io::Write;
 
@@ -26,21 +26,19 @@ fn attributes<W: Write>(out: &mut W, a: Attributes) -> io::Result<()> {
     )
 }
 
-fn no_flow_sample<W: Write>(out: &mut W) -> io::Result<()> {
-    vector_io::line(out, b"no flow sample", &[])
+// The flow sample that a vector exactly is.
+fn flow_of(s: &[u8]) -> Option<FlowSample> {
+    let (x, end) = reader::sample::read_sample(s, 0).ok()?;
+    match x.values {
+        SampleValues::Flow(flow) if end == s.len() => Some(flow),
+        _ => None,
+    }
 }
 
 fn vector<W: Write>(out: &mut W, s: &[u8]) -> io::Result<()> {
-    let Ok((x, end)) = reader::sample::read_sample(s, 0) else {
-        return no_flow_sample(out);
-    };
-    if end != s.len() {
-        return no_flow_sample(out);
-    }
-    let values = x.values;
-    match values {
-        SampleValues::Flow(flow) => attributes(out, packet::attributes_of(s, flow)),
-        SampleValues::Counters(_) => no_flow_sample(out),
+    match flow_of(s) {
+        Some(flow) => attributes(out, packet::attributes_of(s, flow)),
+        None => vector_io::line(out, b"no flow sample", &[]),
     }
 }
 
