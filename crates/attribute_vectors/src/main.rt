@@ -3,9 +3,9 @@
 #![tactic(auto)]
 
 use packet::Attributes;
-use reader::sample::SampleValues;
+use reader::sample::{FlowSample, SampleValues};
 use std::io;
-use std::io::{Read, Write};
+use std::io::Write;
 
 fn attributes<W: Write>(out: &mut W, a: Attributes) -> io::Result<()> {
     vector_io::line(
@@ -26,41 +26,24 @@ fn attributes<W: Write>(out: &mut W, a: Attributes) -> io::Result<()> {
     )
 }
 
-fn no_flow_sample<W: Write>(out: &mut W) -> io::Result<()> {
-    vector_io::line(out, b"no flow sample", &[])
+// The flow sample that a vector exactly is.
+fn flow_of(s: &[u8]) -> Option<FlowSample> {
+    let (x, end) = reader::sample::read_sample(s, 0).ok()?;
+    match x.values {
+        SampleValues::Flow(flow) if end == s.len() => Some(flow),
+        _ => None,
+    }
 }
 
 fn vector<W: Write>(out: &mut W, s: &[u8]) -> io::Result<()> {
-    let Ok((x, end)) = reader::sample::read_sample(s, 0) else {
-        return no_flow_sample(out);
-    };
-    if end != s.len() {
-        return no_flow_sample(out);
+    match flow_of(s) {
+        Some(flow) => attributes(out, packet::attributes_of(s, flow)),
+        None => vector_io::line(out, b"no flow sample", &[]),
     }
-    let values = x.values;
-    match values {
-        SampleValues::Flow(flow) => attributes(out, packet::attributes_of(s, flow)),
-        SampleValues::Counters(_) => no_flow_sample(out),
-    }
-}
-
-// Reads one vector and answers whether there was one.
-fn turn<R: Read, W: Write>(input: &mut R, out: &mut W) -> io::Result<bool> {
-    let mut room = vector_io::room();
-    let Some(n) = vector_io::read_record(input, &mut room) else {
-        return Ok(false);
-    };
-    vector(out, vector_io::part(&room, 0, n))?;
-    Ok(true)
 }
 
 fn main(rt: HostRuntime) -> io::Result<()> {
     let mut input = rt.stdin();
     let mut out = rt.stdout();
-    for _ in 0..u64::MAX {
-        if !turn(&mut input, &mut out)? {
-            return Ok(());
-        }
-    }
-    Ok(())
+    vector_io::each_record(&mut input, &mut out, vector)
 }

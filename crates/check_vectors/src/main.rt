@@ -3,7 +3,7 @@
 #![tactic(auto)]
 
 use std::io;
-use std::io::{Read, Write};
+use std::io::Write;
 
 fn rule_set<W: Write>(out: &mut W, s: &[u8]) -> io::Result<()> {
     match check_rules::check(s) {
@@ -12,23 +12,8 @@ fn rule_set<W: Write>(out: &mut W, s: &[u8]) -> io::Result<()> {
     }
 }
 
-// Reads one rule set and answers whether there was one.
-fn turn<R: Read, W: Write>(input: &mut R, out: &mut W) -> io::Result<bool> {
-    let mut room = vector_io::room();
-    let Some(n) = vector_io::read_record(input, &mut room) else {
-        return Ok(false);
-    };
-    rule_set(out, vector_io::part(&room, 0, n))?;
-    Ok(true)
-}
-
 fn main(rt: HostRuntime) -> io::Result<()> {
     let mut input = rt.stdin();
     let mut out = rt.stdout();
-    for _ in 0..u64::MAX {
-        if !turn(&mut input, &mut out)? {
-            return Ok(());
-        }
-    }
-    Ok(())
+    vector_io::each_record(&mut input, &mut out, rule_set)
 }

@@ -3,7 +3,7 @@
 // the second program in conformance/.
 #![tactic(auto)]
 
-use engine::{ATTRIBUTES, EngineRefusal, FlowKey};
+use engine::{EngineRefusal, FlowKey};
 use std::io;
 use std::io::{Read, Write};
 
@@ -14,9 +14,9 @@ fn known(attribute: usize) -> bool {
 
 // The mask and the value of each attribute.
 fn key<W: Write>(out: &mut W, k: FlowKey) -> io::Result<()> {
-    for i in 0..ATTRIBUTES {
+    for (i, (mask, value)) in k.masks.iter().zip(&k.values).enumerate() {
         if known(i) {
-            vector_io::show(out, b"", &[u64::from(k.masks[i]), u64::from(k.values[i])])?;
+            vector_io::show(out, b"", &[u64::from(*mask), u64::from(*value)])?;
         }
     }
     vector_io::line(out, b"", &[])

@@ -84,7 +84,7 @@ fn row_of(s: &[u8]) -> Row {
     }
 }
 
-// A flow sample; the words that the ledger does not look at are 0.
+// A flow sample; the words that the ledger does not look at are 0. They are named, since nothing else would use a default of these words.
 fn sample_of(s: &[u8]) -> FlowEntry {
     let agent = agent_of(s);
     FlowEntry {

@@ -3,7 +3,7 @@
 #![tactic(auto)]
 
 use std::io;
-use std::io::{Read, Write};
+use std::io::Write;
 
 // So many words from a place on.
 fn words<W: Write>(out: &mut W, s: &[u8], count: u64, first: u64) -> io::Result<()> {
@@ -18,6 +18,23 @@ fn words<W: Write>(out: &mut W, s: &[u8], count: u64, first: u64) -> io::Result<
     vector_io::line(out, b"", &[])
 }
 
+// So many parts of a datagram from a place on, each by a function that shows the one at a place and answers the place behind it.
+fn each<W: Write, F: Fn(&mut W, &[u8], u64) -> io::Result<u64>>(
+    out: &mut W,
+    s: &[u8],
+    count: u64,
+    first: u64,
+    show: F,
+) -> io::Result<()>
+    requires { F.IsAlwaysCallable show }
+{
+    let mut at = first;
+    for _ in 0..count {
+        at = show(out, s, at)?;
+    }
+    Ok(())
+}
+
 // The path segment at a place; answers the place behind it.
 fn segment<W: Write>(out: &mut W, s: &[u8], at: u64) -> io::Result<u64> {
     let mut x = [0u64; 4];
@@ -27,18 +44,10 @@ fn segment<W: Write>(out: &mut W, s: &[u8], at: u64) -> io::Result<u64> {
     Ok(x[1])
 }
 
-fn segments<W: Write>(out: &mut W, s: &[u8], count: u64, first: u64) -> io::Result<()> {
-    let mut at = first;
-    for _ in 0..count {
-        at = segment(out, s, at)?;
-    }
-    Ok(())
-}
-
 fn gateway<W: Write>(out: &mut W, s: &[u8], x: &[u64; 10]) -> io::Result<()> {
     vector_io::show_part(out, b" gateway", x, 2, 3)?;
     vector_io::line(out, b"", &[])?;
-    segments(out, s, x[5], x[6])?;
+    each(out, s, x[5], x[6], segment)?;
     vector_io::show(out, b"  communities", &[])?;
     words(out, s, x[7], x[8])?;
     vector_io::show_part(out, b"  localpref", x, 9, 1)
@@ -59,14 +68,6 @@ fn entry<W: Write>(out: &mut W, s: &[u8], at: u64) -> io::Result<u64> {
     Ok(x[1])
 }
 
-fn entries<W: Write>(out: &mut W, s: &[u8], count: u64, first: u64) -> io::Result<()> {
-    let mut at = first;
-    for _ in 0..count {
-        at = entry(out, s, at)?;
-    }
-    Ok(())
-}
-
 fn flow<W: Write>(out: &mut W, s: &[u8], x: &[u64; 45]) -> io::Result<()> {
     vector_io::show_part(out, b"flow", x, 1, 9)?;
     match x[10] {
@@ -75,7 +76,7 @@ fn flow<W: Write>(out: &mut W, s: &[u8], x: &[u64; 45]) -> io::Result<()> {
         _ => vector_io::show_part(out, b"\n ipv6", x, 13, 14)?,
     }
     vector_io::line(out, b"", &[])?;
-    entries(out, s, x[11], x[12])
+    each(out, s, x[11], x[12], entry)
 }
 
 fn counters<W: Write>(out: &mut W, x: &[u64; 45]) -> io::Result<()> {
@@ -96,14 +97,6 @@ fn sample<W: Write>(out: &mut W, s: &[u8], at: u64) -> io::Result<u64> {
     Ok(at.wrapping_add(x[2]))
 }
 
-fn samples<W: Write>(out: &mut W, s: &[u8], count: u64, first: u64) -> io::Result<()> {
-    let mut at = first;
-    for _ in 0..count {
-        at = sample(out, s, at)?;
-    }
-    Ok(())
-}
-
 fn accepted<W: Write>(out: &mut W, x: &[u64; 9]) -> io::Result<()> {
     vector_io::show_part(out, b"accepted agent", x, 0, 5)?;
     vector_io::show_part(out, b" sequence", x, 5, 1)?;
@@ -120,26 +113,11 @@ fn datagram<W: Write>(out: &mut W, s: &[u8]) -> io::Result<()> {
         return vector_io::refused(out, number, x[0] as usize);
     }
     accepted(out, &x)?;
-    samples(out, s, x[7], x[8])
-}
-
-// Reads one datagram and answers whether there was one.
-fn turn<R: Read, W: Write>(input: &mut R, out: &mut W) -> io::Result<bool> {
-    let mut room = vector_io::room();
-    let Some(n) = vector_io::read_record(input, &mut room) else {
-        return Ok(false);
-    };
-    datagram(out, vector_io::part(&room, 0, n))?;
-    Ok(true)
+    each(out, s, x[7], x[8], sample)
 }
 
 fn main(rt: HostRuntime) -> io::Result<()> {
     let mut input = rt.stdin();
     let mut out = rt.stdout();
-    for _ in 0..u64::MAX {
-        if !turn(&mut input, &mut out)? {
-            return Ok(());
-        }
-    }
-    Ok(())
+    vector_io::each_record(&mut input, &mut out, datagram)
 }

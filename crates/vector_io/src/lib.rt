@@ -2,9 +2,9 @@
 // What a writer then holds is said where its octets are known; of what a system call reads or writes a contract can say nothing.
 #![tactic(auto)]
 
-ghost use Rattle.std.specs.Prelude.{◌≡◌, ◌-◌, ◌++◌, OnOk, length, take, drop, replicate};
+ghost use Rattle.std.specs.Prelude.{ℕ, List, Option, ◌≡◌, ◌-◌, ◌++◌, OnOk, length, take, drop, replicate};
 ghost use Rattle.std.specs.Io.KnownBytes.{Appends};
-ghost use Rattle.vector_io.specs.Records.{ReadInto, TakenFrom};
+ghost use Rattle.vector_io.specs.Records.{ReadInto, TakenFrom, EachRecord};
 ghost use Rattle.vector_io.specs.Texts.{spaced, line_of, refusal_line};
 
 use std::io;
@@ -40,34 +40,25 @@ pub fn read_record<R: Read>(input: &mut R, buffer: &mut [u8]) -> Option<usize>
     Some(n)
 }
 
-// The octets between two places, as far as they are there.
-pub fn part(s: &[u8], at: usize, end: usize) -> &[u8]
-    ensures { result.now ≡ take (end - at) (drop at s.now) }
+// So many items of a list, from a place on and as far as they are there.
+fn some_of<T>(items: &[T], at: usize, count: usize) -> &[T]
+    ensures { result.now ≡ take count (drop at items.now) }
 {
-    if s.len() < at {
-        return &s[..0];
+    if items.len() < at {
+        return &items[..0];
     }
-    if end < at {
-        return &s[..0];
-    }
-    if s.len() < end {
-        return &s[at..];
-    }
-    &s[at..end]
-}
-
-// So many numbers of a list, from a place on and as far as they are there.
-fn some_of(numbers: &[u64], at: usize, count: usize) -> &[u64]
-    ensures { result.now ≡ take count (drop at numbers.now) }
-{
-    if numbers.len() < at {
-        return &numbers[..0];
-    }
-    let rest = &numbers[at..];
+    let rest = &items[at..];
     if rest.len() < count {
         return rest;
     }
     &rest[..count]
+}
+
+// The octets between two places, as far as they are there.
+pub fn part(s: &[u8], at: usize, end: usize) -> &[u8]
+    ensures { result.now ≡ take (end - at) (drop at s.now) }
+{
+    some_of(s, at, end.saturating_sub(at))
 }
 
 // Writes a text and behind it so many numbers of a list, from a place on and as far as they are there, a space before each.
@@ -112,4 +103,23 @@ pub fn refused<W: Write>(out: &mut W, number: u32, at: usize) -> io::Result<()>
 {
     show(out, b"refused", &[number as u64])?;
     line(out, b" at", &[at as u64])
+}
+
+// Calls a function with an output and each record of the input, one behind the other, until the input ends or a call fails.
+pub fn each_record<R: Read, W: Write, F: Fn(&mut W, &[u8]) -> io::Result<()>>(
+    input: &mut R,
+    out: &mut W,
+    step: F,
+) -> io::Result<()>
+    requires { F.IsAlwaysCallable step }
+    ensures { OnOk result ((after : Option (List ℕ)) × EachRecord (F.post step) (R.remaining input.old) out.old after out.new) }
+{
+    let mut buffer = room();
+    for _ in 0..u64::MAX {
+        let Some(n) = read_record(input, &mut buffer) else {
+            return Ok(());
+        };
+        step(out, part(&buffer, 0, n))?;
+    }
+    Ok(())
 }

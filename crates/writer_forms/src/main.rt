@@ -28,14 +28,17 @@ fn agrees(
     end == length && check::same(vector_io::part(d, 0, length), want)
 }
 
-fn report<W: Write>(
-    out: &mut W,
-    name: &[u8],
-    d: &[u8],
-    answer: Result<usize, WriteRefusal>,
-    passed: Result<usize, Refused>,
-    want: &[u8],
-) -> io::Result<()> {
+// Writes a form to a buffer by one function, reads it back by another and compares.
+fn report<
+    W: Write,
+    F: FnOnce(&mut [u8]) -> Result<usize, WriteRefusal>,
+    P: FnOnce(&[u8]) -> Result<usize, Refused>,
+>(out: &mut W, d: &mut [u8], name: &[u8], write: F, pass: P, want: &[u8]) -> io::Result<()>
+    requires written { F.IsAlwaysCallable write }
+    requires passed { P.IsAlwaysCallable pass }
+{
+    let answer = write(d);
+    let passed = pass(d);
     vector_io::show(out, name, &[])?;
     if agrees(d, answer, passed, want) {
         vector_io::line(out, b" written and read back", &[])
@@ -45,14 +48,12 @@ fn report<W: Write>(
 }
 
 fn header<W: Write>(out: &mut W, d: &mut [u8]) -> io::Result<()> {
-    let answer = form_writer::packet::write_header(d, 1, 64, b"\x01\x02\x03\x04\x05");
-    let passed = packet_data::pass_packet(d, 0);
     report(
         out,
-        b"header",
         d,
-        answer,
-        passed,
+        b"header",
+        |d| form_writer::packet::write_header(d, 1, 64, b"\x01\x02\x03\x04\x05"),
+        |d| packet_data::pass_packet(d, 0),
         b"\0\0\0\x01\0\0\0\x01\0\0\0\x40\0\0\0\x05\x01\x02\x03\x04\x05\0\0\0",
     )
 }
@@ -68,14 +69,12 @@ fn ipv4<W: Write>(out: &mut W, d: &mut [u8]) -> io::Result<()> {
         tcp_flags: 2,
         tos: 9,
     };
-    let answer = form_writer::packet::write_ipv4(d, x);
-    let passed = packet_data::pass_packet(d, 0);
     report(
         out,
-        b"IPv4",
         d,
-        answer,
-        passed,
+        b"IPv4",
+        |d| form_writer::packet::write_ipv4(d, x),
+        |d| packet_data::pass_packet(d, 0),
         b"\0\0\0\x02\0\0\0\x01\0\0\0\x06\x0a\0\0\x07\x0a\0\0\x08\0\0\0\x50\0\0\x01\xbb\0\0\0\x02\0\0\0\x09",
     )
 }
@@ -100,14 +99,12 @@ fn ipv6<W: Write>(out: &mut W, d: &mut [u8]) -> io::Result<()> {
         tcp_flags: 7,
         priority: 8,
     };
-    let answer = form_writer::packet::write_ipv6(d, x);
-    let passed = packet_data::pass_packet(d, 0);
     report(
         out,
-        b"IPv6",
         d,
-        answer,
-        passed,
+        b"IPv6",
+        |d| form_writer::packet::write_ipv6(d, x),
+        |d| packet_data::pass_packet(d, 0),
         b"\0\0\0\x03\0\0\0\x01\0\0\0\x11\x20\x01\x0d\xb8\0\0\0\x01\0\0\0\x02\0\0\0\x03\x20\x01\x0d\xb8\0\0\0\x01\0\0\0\x02\0\0\0\x03\0\0\0\x05\0\0\0\x06\0\0\0\x07\0\0\0\x08",
     )
 }
@@ -119,19 +116,17 @@ fn switch<W: Write>(out: &mut W, d: &mut [u8]) -> io::Result<()> {
         dst_vlan: 3,
         dst_priority: 4,
     };
-    let answer = form_writer::extended::write_switch(d, x);
-    let passed = extended_data::pass_extended(d, 0, 1);
     report(
         out,
-        b"switch",
         d,
-        answer,
-        passed,
+        b"switch",
+        |d| form_writer::extended::write_switch(d, x),
+        |d| extended_data::pass_extended(d, 0, 1),
         b"\0\0\0\x01\0\0\0\x01\0\0\0\x02\0\0\0\x03\0\0\0\x04",
     )
 }
 
-// A router whose next hop is an address of a type.
+// A router whose next hop is an address of a type, which is a number in an address too.
 fn router<W: Write>(
     out: &mut W,
     d: &mut [u8],
@@ -147,9 +142,14 @@ fn router<W: Write>(
         src_mask: 24,
         dst_mask: 16,
     };
-    let answer = form_writer::extended::write_router(d, x);
-    let passed = extended_data::pass_extended(d, 0, 1);
-    report(out, name, d, answer, passed, want)
+    report(
+        out,
+        d,
+        name,
+        |d| form_writer::extended::write_router(d, x),
+        |d| extended_data::pass_extended(d, 0, 1),
+        want,
+    )
 }
 
 fn routers<W: Write>(out: &mut W, d: &mut [u8]) -> io::Result<()> {
@@ -170,54 +170,46 @@ fn routers<W: Write>(out: &mut W, d: &mut [u8]) -> io::Result<()> {
 }
 
 fn user<W: Write>(out: &mut W, d: &mut [u8]) -> io::Result<()> {
-    let answer = form_writer::extended::write_user(d, b"root", b"guest");
-    let passed = extended_data::pass_extended(d, 0, 1);
     report(
         out,
-        b"user",
         d,
-        answer,
-        passed,
+        b"user",
+        |d| form_writer::extended::write_user(d, b"root", b"guest"),
+        |d| extended_data::pass_extended(d, 0, 1),
         b"\0\0\0\x04\0\0\0\x04root\0\0\0\x05guest\0\0\0",
     )
 }
 
 fn url<W: Write>(out: &mut W, d: &mut [u8]) -> io::Result<()> {
-    let answer = form_writer::extended::write_url(d, 2, b"/a");
-    let passed = extended_data::pass_extended(d, 0, 1);
     report(
         out,
-        b"URL",
         d,
-        answer,
-        passed,
+        b"URL",
+        |d| form_writer::extended::write_url(d, 2, b"/a"),
+        |d| extended_data::pass_extended(d, 0, 1),
         b"\0\0\0\x05\0\0\0\x02\0\0\0\x02/a\0\0",
     )
 }
 
 fn segment<W: Write>(out: &mut W, d: &mut [u8]) -> io::Result<()> {
-    let answer = form_writer::extended::write_segment(d, 2, &[7, 8]);
-    let passed = extended_data::pass_segments(d, 0, 1);
     report(
         out,
-        b"path segment",
         d,
-        answer,
-        passed,
+        b"path segment",
+        |d| form_writer::extended::write_segment(d, 2, &[7, 8]),
+        |d| extended_data::pass_segments(d, 0, 1),
         b"\0\0\0\x02\0\0\0\x02\0\0\0\x07\0\0\0\x08",
     )
 }
 
 fn gateway<W: Write>(out: &mut W, d: &mut [u8]) -> io::Result<()> {
     let path = b"\0\0\0\x02\0\0\0\x02\0\0\0\x07\0\0\0\x08\0\0\0\x01\0\0\0\0";
-    let answer = form_writer::extended::write_gateway(d, 1, 2, 3, 2, path, &[9], 100);
-    let passed = extended_data::pass_extended(d, 0, 1);
     report(
         out,
-        b"gateway",
         d,
-        answer,
-        passed,
+        b"gateway",
+        |d| form_writer::extended::write_gateway(d, 1, 2, 3, 2, path, &[9], 100),
+        |d| extended_data::pass_extended(d, 0, 1),
         b"\0\0\0\x03\0\0\0\x01\0\0\0\x02\0\0\0\x03\0\0\0\x02\0\0\0\x02\0\0\0\x02\0\0\0\x07\0\0\0\x08\0\0\0\x01\0\0\0\0\0\0\0\x01\0\0\0\x09\0\0\0\x64",
     )
 }
@@ -240,14 +232,12 @@ fn flow_sample<W: Write>(out: &mut W, d: &mut [u8]) -> io::Result<()> {
     let header = b"\0\0\0\x01\0\0\0\x01\0\0\0\x40\0\0\0\x01\xff\0\0\0";
     let entries =
         b"\0\0\0\x05\0\0\0\x02\0\0\0\x02/a\0\0\0\0\0\x01\0\0\0\x01\0\0\0\x02\0\0\0\x03\0\0\0\x04";
-    let answer = sample_writer::sample::write_flow(d, words, header, 2, entries);
-    let passed = reader::sample::pass_sample(d, 0);
     report(
         out,
-        b"flow sample",
         d,
-        answer,
-        passed,
+        b"flow sample",
+        |d| sample_writer::sample::write_flow(d, words, header, 2, entries),
+        |d| reader::sample::pass_sample(d, 0),
         b"\0\0\0\x01\0\0\0\x01\0\0\0\x02\0\0\0\x03\0\0\0\x04\0\0\0\x05\0\0\0\x06\0\0\0\x07\0\0\0\x01\0\0\0\x01\0\0\0\x40\0\0\0\x01\xff\0\0\0\0\0\0\x02\0\0\0\x05\0\0\0\x02\0\0\0\x02/a\0\0\0\0\0\x01\0\0\0\x01\0\0\0\x02\0\0\0\x03\0\0\0\x04",
     )
 }
@@ -256,14 +246,12 @@ fn header_flow<W: Write>(out: &mut W, d: &mut [u8]) -> io::Result<()> {
     let words = flow_words();
     let entries =
         b"\0\0\0\x05\0\0\0\x02\0\0\0\x02/a\0\0\0\0\0\x01\0\0\0\x01\0\0\0\x02\0\0\0\x03\0\0\0\x04";
-    let answer = sample_writer::sample::write_header_flow(d, words, 1, 64, b"\xff", 2, entries);
-    let passed = reader::sample::pass_sample(d, 0);
     report(
         out,
-        b"flow sample with a header",
         d,
-        answer,
-        passed,
+        b"flow sample with a header",
+        |d| sample_writer::sample::write_header_flow(d, words, 1, 64, b"\xff", 2, entries),
+        |d| reader::sample::pass_sample(d, 0),
         b"\0\0\0\x01\0\0\0\x01\0\0\0\x02\0\0\0\x03\0\0\0\x04\0\0\0\x05\0\0\0\x06\0\0\0\x07\0\0\0\x01\0\0\0\x01\0\0\0\x40\0\0\0\x01\xff\0\0\0\0\0\0\x02\0\0\0\x05\0\0\0\x02\0\0\0\x02/a\0\0\0\0\0\x01\0\0\0\x01\0\0\0\x02\0\0\0\x03\0\0\0\x04",
     )
 }
@@ -280,14 +268,12 @@ fn ipv4_flow<W: Write>(out: &mut W, d: &mut [u8]) -> io::Result<()> {
         tcp_flags: 15,
         tos: 16,
     };
-    let answer = sample_writer::sample::write_ipv4_flow(d, words, x, 0, b"");
-    let passed = reader::sample::pass_sample(d, 0);
     report(
         out,
-        b"flow sample with IPv4 data",
         d,
-        answer,
-        passed,
+        b"flow sample with IPv4 data",
+        |d| sample_writer::sample::write_ipv4_flow(d, words, x, 0, b""),
+        |d| reader::sample::pass_sample(d, 0),
         b"\0\0\0\x01\0\0\0\x01\0\0\0\x02\0\0\0\x03\0\0\0\x04\0\0\0\x05\0\0\0\x06\0\0\0\x07\0\0\0\x02\0\0\0\x09\0\0\0\x0a\0\0\0\x0b\0\0\0\x0c\0\0\0\x0d\0\0\0\x0e\0\0\0\x0f\0\0\0\x10\0\0\0\x00",
     )
 }
@@ -314,28 +300,24 @@ fn ipv6_flow<W: Write>(out: &mut W, d: &mut [u8]) -> io::Result<()> {
         tcp_flags: 21,
         priority: 22,
     };
-    let answer = sample_writer::sample::write_ipv6_flow(d, words, x, 0, b"");
-    let passed = reader::sample::pass_sample(d, 0);
     report(
         out,
-        b"flow sample with IPv6 data",
         d,
-        answer,
-        passed,
+        b"flow sample with IPv6 data",
+        |d| sample_writer::sample::write_ipv6_flow(d, words, x, 0, b""),
+        |d| reader::sample::pass_sample(d, 0),
         b"\0\0\0\x01\0\0\0\x01\0\0\0\x02\0\0\0\x03\0\0\0\x04\0\0\0\x05\0\0\0\x06\0\0\0\x07\0\0\0\x03\0\0\0\x09\0\0\0\x0a\0\0\0\x0b\0\0\0\x0c\0\0\0\x0d\0\0\0\x0e\0\0\0\x0f\0\0\0\x10\0\0\0\x11\0\0\0\x12\0\0\0\x13\0\0\0\x14\0\0\0\x15\0\0\0\x16\0\0\0\x00",
     )
 }
 
 fn counter_sample<W: Write>(out: &mut W, d: &mut [u8]) -> io::Result<()> {
     let numbers = [1u64, 72623859790382856, 3, 4, 5, 6];
-    let answer = sample_writer::counters::write_counters(d, 5, 6, 7, 7, &numbers);
-    let passed = reader::sample::pass_sample(d, 0);
     report(
         out,
-        b"counter sample",
         d,
-        answer,
-        passed,
+        b"counter sample",
+        |d| sample_writer::counters::write_counters(d, 5, 6, 7, 7, &numbers),
+        |d| reader::sample::pass_sample(d, 0),
         b"\0\0\0\x02\0\0\0\x05\0\0\0\x06\0\0\0\x07\0\0\0\x07\0\0\0\x01\x01\x02\x03\x04\x05\x06\x07\x08\0\0\0\x03\0\0\0\x04\0\0\0\x05\0\0\0\x06",
     )
 }

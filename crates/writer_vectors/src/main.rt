@@ -12,16 +12,16 @@ use reader::sample::{CountersSample, FlowSample, Sample, SampleValues};
 use std::io;
 use std::io::{Read, Write};
 
-// What a turn met: the end of the input, or a datagram that is not accepted, or one that was written again with the same octets or with others.
+// What became of a datagram: it is not accepted, or it was written again with the same octets or with others.
 #[derive(Clone, Copy)]
 enum Outcome {
-    Ended,
     Refused,
     Equal,
     Different,
 }
 
-// The functions that append answer the new length, or none where the writer refused.
+// The functions that append answer the new length, or none where the writer refused. The buffer and its length stand side by side, as the writer takes
+// them and gives them back.
 
 // Appends a flow sample of a datagram with a sampled header, and its extended entries as octets.
 fn append_header(
@@ -74,7 +74,8 @@ fn append_flow(
     }
 }
 
-// Appends a counter sample: its words, its version and the first numbers of a list, so many as the version has.
+// Appends a counter sample: its words, its version, which the writer takes as a number and may refuse, and the first numbers of a list, so many as
+// the version has.
 fn append_numbers(
     out: &mut [u8],
     length: usize,
@@ -127,37 +128,26 @@ fn append_values(out: &mut [u8], length: usize, s: &[u8], x: Sample, end: usize)
     }
 }
 
-// Appends a sample, as values or as octets.
-fn append(
-    out: &mut [u8],
-    length: usize,
-    s: &[u8],
-    x: Sample,
-    end: usize,
-    by_values: bool,
-) -> Option<usize> {
-    if by_values {
-        return append_values(out, length, s, x, end);
-    }
-    let octets = vector_io::part(s, x.offset, end);
-    writer::append_octets(out, 65507, length, octets).ok()
+// Appends a sample as octets.
+fn append_octets(out: &mut [u8], length: usize, s: &[u8], x: Sample, end: usize) -> Option<usize> {
+    writer::append_octets(out, 65507, length, vector_io::part(s, x.offset, end)).ok()
 }
 
-// Appends so many samples of a datagram.
-fn append_samples(
+// Appends the samples of a datagram, each by a function that appends one.
+fn append_samples<F: Fn(&mut [u8], usize, &[u8], Sample, usize) -> Option<usize>>(
     out: &mut [u8],
     start: usize,
     s: &[u8],
     list: Entries,
-    by_values: bool,
-) -> Option<usize> {
+    append: F,
+) -> Option<usize>
+    requires { F.IsAlwaysCallable append }
+{
     let mut length = start;
     let mut at = list.at;
     for _ in 0..list.count {
-        let Ok((x, end)) = reader::sample::read_sample(s, at) else {
-            return None;
-        };
-        length = append(out, length, s, x, end, by_values)?;
+        let (x, end) = reader::sample::read_sample(s, at).ok()?;
+        length = append(out, length, s, x, end)?;
         at = end;
     }
     Some(length)
@@ -170,8 +160,14 @@ fn cleared() -> [u8; 65507]
     [165; 65507]
 }
 
-// Writes a datagram again and answers whether it came out the same.
-fn again(s: &[u8], head: Head, by_values: bool) -> bool {
+// Writes a datagram again, each sample by a function that appends one, and answers whether it came out the same.
+fn again<F: Fn(&mut [u8], usize, &[u8], Sample, usize) -> Option<usize>>(
+    s: &[u8],
+    head: Head,
+    append: F,
+) -> bool
+    requires { F.IsAlwaysCallable append }
+{
     let mut out = cleared();
     let Ok(start) = writer::start(
         &mut out,
@@ -182,7 +178,7 @@ fn again(s: &[u8], head: Head, by_values: bool) -> bool {
     ) else {
         return false;
     };
-    let Some(length) = append_samples(&mut out, start, s, head.samples, by_values) else {
+    let Some(length) = append_samples(&mut out, start, s, head.samples, append) else {
         return false;
     };
     length == s.len() && check::same(vector_io::part(&out, 0, length), s)
@@ -192,20 +188,18 @@ fn datagram(s: &[u8]) -> Outcome {
     let Ok(head) = reader::datagram::read(s) else {
         return Outcome::Refused;
     };
-    if again(s, head, false) && again(s, head, true) {
+    if again(s, head, append_octets) && again(s, head, append_values) {
         Outcome::Equal
     } else {
         Outcome::Different
     }
 }
 
-// Reads one datagram and writes it again.
-fn turn<R: Read>(input: &mut R) -> Outcome {
+// Reads one datagram and writes it again; none at the end of the input.
+fn turn<R: Read>(input: &mut R) -> Option<Outcome> {
     let mut room = vector_io::room();
-    let Some(n) = vector_io::read_record(input, &mut room) else {
-        return Outcome::Ended;
-    };
-    datagram(vector_io::part(&room, 0, n))
+    let n = vector_io::read_record(input, &mut room)?;
+    Some(datagram(vector_io::part(&room, 0, n)))
 }
 
 fn report<W: Write>(out: &mut W, accepted: u64, equal: u64, different: u64) -> io::Result<()> {
@@ -220,8 +214,10 @@ fn main(rt: HostRuntime) -> io::Result<()> {
     let mut equal = 0u64;
     let mut different = 0u64;
     for _ in 0..u64::MAX {
-        match turn(&mut input) {
-            Outcome::Ended => return report(&mut out, equal + different, equal, different),
+        let Some(outcome) = turn(&mut input) else {
+            return report(&mut out, equal + different, equal, different);
+        };
+        match outcome {
             Outcome::Refused => {}
             Outcome::Equal => equal += 1,
             Outcome::Different => different += 1,
