@@ -214,6 +214,10 @@ moved_to_front s from end low high =
     ap (λ (k : ℕ). take k (copy_within s from end 0)) (sym long)
     ∙ take-append_seam (take (end - from) (drop from s)) (drop (0 + (end - from)) s) ∙ sym (rest_of_front s from end low)
 
+-- octets that stand at the front already
+pub stays_at_front : (s : List ℕ) (from end : ℕ) → from ≡ 0 → take (end - from) s ≡ drop from (take end s)
+stays_at_front s from end e = let n : end - from ≡ end = omega (arith, e) in rw (n, e) refl
+
 -- an unfinished record leaves room in a buffer that takes the longest
 pub room_left : (s : List ℕ) (held : ℕ) → held ≤ length s → frame_of (take held s) ≡ Err Short → 65511 ≤ length s → held < length s
 room_left s held h f room =

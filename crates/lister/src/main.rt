@@ -222,7 +222,10 @@ fn list_input<E: Eprint + AllocGlobal, R: Read, W: Write>(
             Rest::Bad => return finish(rt, writer, output, state, &input[listed..end]),
             Rest::OutputFailed => return None,
         }
-        input.copy_within(listed..end, 0);
+        // where no record was listed, they stand at the front already
+        if listed != 0 {
+            input.copy_within(listed..end, 0);
+        }
         held = end - listed;
     }
     None

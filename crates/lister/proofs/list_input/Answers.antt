@@ -3,8 +3,9 @@ use Rattle.listing.specs.Captures.{frame_of}
 use Rattle.listing.proofs.Captures.{frame_short}
 use Rattle.std.proofs.lemmas.Option.{IfSome_then}
 use Rattle.lister.proofs.Parts.{front_inside, left_as}
-use Rattle.lister.proofs.Stream.{Streamed, streamed_begins, streamed_listed, after_read, ends_at_end, ends_at_bad, moved_to_front, room_left}
+use Rattle.lister.proofs.Stream.{Streamed, streamed_begins, streamed_listed, after_read, ends_at_end, ends_at_bad, moved_to_front, stays_at_front, room_left}
 use Rattle.lister.proofs.list_input.Goals as goal
+use Rattle.lister.proofs.list_input.Goals.{then-listed-ne0, else-listed-ne0}
 
 pub loop-init : goal.loop-init
 loop-init g c = (search rules, sym (frame_short [] 0 (omega arith)), streamed_begins _ _ _ c.nothing_listed-state.ensures)
@@ -42,5 +43,11 @@ loop-preserved g c =
     let low = front_inside _ _ _ l.listed.inside in
     let end = c.in_ok-end.end in
     let from = c.list_held-p.result.listed in
-    let moved = ap (take (end - from)) c.copy_within.ensures.after ∙ moved_to_front c.fill.new.input from end low found.inside.1 in
-    (search rules, ap frame_of moved ∙ unfinished, subst (Streamed _ _ _ _ _) (sym moved) listed)
+    elim c.if-listed-ne0.branch [
+      | then-listed-ne0 w ↦
+          let moved = ap (take (end - from)) (w.input-is ∙ w.copy_within.ensures.after) ∙ moved_to_front c.fill.new.input from end low found.inside.1 in
+          (search rules, ap frame_of moved ∙ unfinished, subst (Streamed _ _ _ _ _) (sym moved) listed)
+      | else-listed-ne0 w ↦
+          let stays = ap (take (end - from)) w.input-is ∙ stays_at_front c.fill.new.input from end w.if-listed-ne0.false in
+          (search rules, ap frame_of stays ∙ unfinished, subst (Streamed _ _ _ _ _) (sym stays) listed)
+    ]
