@@ -1,7 +1,7 @@
 #![tactic(auto, using(std::proofs::lemmas::Bool::Decides::nat_tests, rules::proofs::Bits::masked_is), unfolding(rules::specs::Machine::passes, crate::specs::EngineStates::acted_of, crate::specs::EngineStates::failed_of, crate::specs::EngineStates::item_of, crate::specs::Results::put, crate::specs::Results::flow_in, crate::specs::Results::engine_of))]
 // The engine: a rule set's octets and a flow sample's octets give the machine's answer, the flow key and the number of rules come to (document 01, "Rule
 // sets"; RFC 2722, section 4.4).
-ghost use Rattle.std.specs.Prelude.{◌≡◌, ◌+◌, ◌≤◌, length, get_or, not, ◌&&◌, Ok, Err};
+ghost use Rattle.std.specs.Prelude.{◌≡◌, ◌+◌, ◌≤◌, ◌<◌, [], ◌∷◌, length, get_or, not, ◌&&◌, Ok, Err};
 ghost use Rattle.packet.specs.Attributes.{attribute};
 ghost use Rattle.rules.specs.declared.Action.TheVariants.{Return};
 ghost use Rattle.rules.specs.Records.{rule_count, rule_of};
@@ -9,7 +9,7 @@ ghost use Rattle.rules.specs.Machine.{passes, step, after};
 ghost use Rattle.rules.specs.Room.{Room};
 ghost use Rattle.rules.specs.Checks.{accepted, check};
 ghost use Rattle.rules.specs.Demand.{bound};
-ghost use Rattle.engine.specs.EngineStates.{Live, initial_state, goes_of, acted_of, failed_of, queues_packet, item_of, state_of, outcome_by, queued};
+ghost use Rattle.engine.specs.EngineStates.{Live, initial_state, goes_of, ends_of, acted_of, failed_of, queues_packet, item_of, state_of, outcome_by, queued};
 ghost use Rattle.engine.specs.Results.{engine_number, put, key_of, result_of, flow_in, of_sample, engine_of};
 ghost use Rattle.engine.specs.declared.EngineRefusal.TheVariants.{RuleSet};
 
@@ -112,6 +112,23 @@ impl EngineState {
         None
     }
 
+    // The machine ends with nothing queued.
+    fn ends_empty(&mut self, answer: MachineAnswer) -> Option<MachineAnswer>
+        ensures { (result, self.new) ≡ ends_of answer self.old [] }
+    {
+        self.queue.clear();
+        Some(answer)
+    }
+
+    // The machine ends with the present rule's item queued behind the others.
+    fn ends_queuing(&mut self, answer: MachineAnswer) -> Option<MachineAnswer>
+        requires { length self.old.queue < MAX_ITEMS }
+        ensures { (result, self.new) ≡ ends_of answer self.old (self.old.number ∷ self.old.queue) }
+    {
+        self.queue.push(self.number);
+        Some(answer)
+    }
+
     // What an action makes of the state, and the answer that the machine ends with, if it does.
     fn acts(&mut self, a: Action, parameter: usize) -> Option<MachineAnswer>
         requires room { Room a (length self.old.calls) (length self.old.queue) }
@@ -120,22 +137,10 @@ impl EngineState {
     {
         match a {
             Action::Unknown => None,
-            Action::Ignore => {
-                self.queue.clear();
-                Some(MachineAnswer::Ignore)
-            }
-            Action::NoMatch => {
-                self.queue.clear();
-                Some(MachineAnswer::NoMatch)
-            }
-            Action::Count => {
-                self.queue.push(self.number);
-                Some(MachineAnswer::Count)
-            }
-            Action::CountPkt => {
-                self.queue.push(self.number);
-                Some(MachineAnswer::CountPkt)
-            }
+            Action::Ignore => self.ends_empty(MachineAnswer::Ignore),
+            Action::NoMatch => self.ends_empty(MachineAnswer::NoMatch),
+            Action::Count => self.ends_queuing(MachineAnswer::Count),
+            Action::CountPkt => self.ends_queuing(MachineAnswer::CountPkt),
             Action::Return => {
                 let gosub = self.calls.pop();
                 self.goes_to(gosub + parameter, false)

@@ -68,6 +68,13 @@ fn ipv4(words: &[u32], buffer: &mut [u8]) -> Result<usize, WriteRefusal>
     form_writer::packet::write_ipv4(buffer, ipv4_in(words)?)
 }
 
+// Sixteen octets as their four words.
+fn quad(a: u32, b: u32, c: u32, d: u32) -> Quad
+    ensures { result ≡ record { a = a; b = b; c = c; d = d } }
+{
+    Quad { a, b, c, d }
+}
+
 // IPv6 data from fourteen words, four for each address.
 fn ipv6_in(words: &[u32]) -> Result<SampledIpv6, WriteRefusal>
     ensures { result ≡ cond (eqb (length words.now) 14) (Ok (ipv6_in words.now)) (Err BadValue) }
@@ -94,18 +101,8 @@ fn ipv6_in(words: &[u32]) -> Result<SampledIpv6, WriteRefusal>
     Ok(SampledIpv6 {
         length,
         protocol,
-        src_ip: Quad {
-            a: s1,
-            b: s2,
-            c: s3,
-            d: s4,
-        },
-        dst_ip: Quad {
-            a: t1,
-            b: t2,
-            c: t3,
-            d: t4,
-        },
+        src_ip: quad(s1, s2, s3, s4),
+        dst_ip: quad(t1, t2, t3, t4),
         src_port,
         dst_port,
         tcp_flags,

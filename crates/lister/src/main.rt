@@ -143,17 +143,13 @@ fn list_held<E: Eprint + AllocGlobal, W: Write>(
         let p = listing::list_records(output, &s[listed..], state);
         listed += p.at;
         state = p.state;
-        let Some(()) = flush(rt, writer, output, p.out) else {
-            return Progress {
-                listed,
-                state,
-                rest: Rest::OutputFailed,
-            };
-        };
-        let rest = match p.stop {
-            Stop::Output => continue,
-            Stop::BadRecord => Rest::Bad,
-            _ => Rest::Unfinished,
+        let rest = match flush(rt, writer, output, p.out) {
+            None => Rest::OutputFailed,
+            Some(()) => match p.stop {
+                Stop::Output => continue,
+                Stop::BadRecord => Rest::Bad,
+                _ => Rest::Unfinished,
+            },
         };
         return Progress {
             listed,

@@ -19,8 +19,8 @@ flush-requires g c =
     let h = written_inside _ _ _ _ _ c.list_records-p.ensures (search rules) in
     omega arith
 
-pub returns-in_default : goal.returns-in_default
-returns-in_default g c =
+pub returns-in-None : goal.returns-in-None
+returns-in-None g c =
     let i = c.loop-listed.invariant in
     let m = records_from _ _ c.args.s.now c.loop-listed.listed _ _ i.0 (λ i. (c.type_inv.s i).fits) c.list_records-p.ensures in
     record {
@@ -39,14 +39,14 @@ returns-in-BadRecord g c =
       records = so_lists _ _ _ _ _ _ _ (so_more _ _ _ _ _ _ i.2 _ _ m _ c.in-Some.ensures);
     }
 
-pub returns-in_default-stop : goal.returns-in_default-stop
-returns-in_default-stop g c =
+pub returns-in_default : goal.returns-in_default
+returns-in_default g c =
     let i = c.loop-listed.invariant in
     let m = records_from _ _ c.args.s.now c.loop-listed.listed _ _ i.0 (λ i. (c.type_inv.s i).fits) c.list_records-p.ensures in
     record {
       listed =
           listed_there _ _ c.args.s.now c.loop-listed.listed _ _ i.0 c.list_records-p.ensures _ i.1 Unfinished
-          (stops_else _ _ c.args.s.now c.loop-listed.listed _ _ i.0 c.list_records-p.ensures c.in_default-stop.not-Output c.in_default-stop.not-BadRecord);
+          (stops_else _ _ c.args.s.now c.loop-listed.listed _ _ i.0 c.list_records-p.ensures c.in_default.not-Output c.in_default.not-BadRecord);
       records = so_lists _ _ _ _ _ _ _ (so_more _ _ _ _ _ _ i.2 _ _ m _ c.in-Some.ensures);
     }
 
