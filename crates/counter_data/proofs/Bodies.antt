@@ -3,12 +3,12 @@ use Prim.Native.Nat.{ℕ, zero, suc, ◌+◌, ◌-◌, ◌≤◌, ◌<◌}
 use native.Mathlib.Omega.{arith}
 use mathlib.Core.Path.{◌≡◌, refl, sym, ap, ◌∙◌}
 use mathlib.Core.Logic.{◌⊎◌, inl, inr, ⊎_elim}
-use mathlib.Core.List.{List, []}
+use mathlib.Core.List.{List, [], ◌∷◌}
 use mathlib.Core.Bool.{true, false}
 use lib.ListN.{length}
 use borrow.Author.Tests.{ne_eqb}
 use Rattle.xdr.specs.Items.{word_at, total_width}
-use Rattle.xdr.proofs.Reading.{word_read}
+use Rattle.xdr.proofs.Reading.{word_read, tested}
 use Rattle.sflow.specs.declared.Refusal.{Refusal}
 use Rattle.sflow.specs.declared.Refusal.TheVariants.{CutItem, CountersVersion}
 use Rattle.sflow.specs.Grammar.{Form, fixed, listed, chosen}
@@ -17,7 +17,7 @@ use Rattle.sflow.specs.Datagram.{counters_versions, counters_type}
 use Rattle.sflow.proofs.Steps.{union_arm, union_bad, union_cut, fixed_end}
 use Rattle.fields.specs.Parts.{as_passed}
 use Rattle.fields.proofs.Passing.{passed_next, passed_refused}
-use Rattle.fields.proofs.Forms.{passed_whole}
+use Rattle.fields.proofs.Forms.{passed_whole, passed_item, passed_item_cut}
 use Rattle.counter_data.specs.CounterBodies.{counter_body_of}
 use Rattle.std.specs.Prelude.{Result, Ok, Err}
 use Rattle.xdr.specs.Items.{cut}
@@ -90,6 +90,15 @@ pub body_there : (s : List ℕ) (at size v : ℕ) → size ≡ total_width (widt
 body_there s at size v z h k =
     let room : at + total_width (widths_of v) ≤ length s = omega (arith, z) in
     rw z (sym (passed_whole s at (widths_of v) room))
+
+-- they are, where one item of as many octets is passed over
+pub body_in_one : (s : List ℕ) (at size v next : ℕ) → size ≡ total_width (widths_of v) → Ok next ≡ as_passed (decode (fixed (size ∷ [])) s at)
+    → Ok next ≡ as_passed (decode (form_of v) s at)
+body_in_one s at size v next z e =
+    ⊎_elim
+    (λ h. e ∙ passed_item s at size h.0 ∙ body_there s at size v z (omega (arith, h.0)) (omega (arith, h.0)))
+    (λ h. let bad : Ok next ≡ Err (refused_at CutItem at) = e ∙ passed_item_cut s at size h.0 in cc)
+    (tested (at + size) (length s) true false _ refl)
 
 -- no counters, nothing to pass over
 pub body_none : (s : List ℕ) (at : ℕ) (ws : List ℕ) → ws ≡ [] → Ok at ≡ as_passed (decode (fixed ws) s at)

@@ -62,15 +62,15 @@ fn pass_each(s: &[u8], at: usize, version: u32) -> Result<usize, Refused>
     }
 }
 
-// The counters of a version, a run of free items: one comparison tells where all are there.
+// The counters of a version, a run of free items: passed over as one item of all their octets, and by their widths only where some are missing.
+#[inline(always)]
 fn pass_body(s: &[u8], at: usize, version: u32) -> Result<usize, Refused>
     ensures { result ≡ as_passed (decode (fixed (chosen [] counters_versions version)) s.now at) }
 {
-    let size = body_size(version);
-    if s.len() < at || s.len() - at < size {
+    let Ok(next) = fields::runs::pass_item(s, at, body_size(version)) else {
         return pass_each(s, at, version);
-    }
-    Ok(at + size)
+    };
+    Ok(next)
 }
 
 // Counters at their version word.

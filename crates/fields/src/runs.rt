@@ -7,6 +7,7 @@ ghost use Rattle.fields.specs.Parts.{as_passed};
 use sflow::{Refusal, Refused};
 
 // One item of a width.
+#[inline(always)]
 pub fn pass_item(s: &[u8], at: usize, width: usize) -> Result<usize, Refused>
     ensures { result ≡ as_passed (decode (fixed (width ∷ [])) s.now at) }
 {

@@ -119,7 +119,9 @@ fn source_text(d: &mut [u8], at: usize, source: u32) -> usize
     labelled(d, next, b".", (source % 16777216) as u64)
 }
 
-// A sample's kind with its offset, length, source id and sequence number.
+// A sample's kind with its offset, length, source id and sequence number. In each caller the kind is known, so that it is put as a few words: the archive for C
+// asks the C library for no memmove.
+#[inline(always)]
 fn sample_text(
     d: &mut [u8],
     at: usize,

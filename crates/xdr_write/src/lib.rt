@@ -1,9 +1,9 @@
 #![tactic(auto)]
 // Items of XDR (RFC 1832) written into octets: each function answers the offset behind what it wrote.
 // Every function answers for every buffer and every offset, also an offset beyond the buffer; where an item does not fit, every octet stays.
-ghost use Rattle.std.specs.Prelude.{◌≡◌};
+ghost use Rattle.std.specs.Prelude.{◌≡◌, ◌+◌, ◌≤◌, length};
 ghost use Rattle.xdr.specs.Numbers.{octets_of};
-ghost use Rattle.xdr.specs.Writes.{write_at, afterwards, padded_octets};
+ghost use Rattle.xdr.specs.Writes.{write_at, afterwards, padded_octets, stored};
 
 pub fn write_word(d: &mut [u8], at: usize, v: u32) -> Option<usize>
     ensures { afterwards result d.new ≡ write_at d.old at (octets_of 4 v) }
@@ -25,7 +25,7 @@ pub fn write_octets(d: &mut [u8], at: usize, xs: &[u8]) -> Option<usize>
         return None;
     }
     let end = at + count;
-    d[at..end].copy_from_slice(xs);
+    copy(d, at, xs);
     Some(end)
 }
 
@@ -38,7 +38,19 @@ pub fn write_padded(d: &mut [u8], at: usize, xs: &[u8]) -> Option<usize>
     if d.len() < at || d.len() - at < whole {
         return None;
     }
-    d[at..at + count].copy_from_slice(xs);
+    copy(d, at, xs);
     d[at + count..at + whole].fill(0);
     Some(at + whole)
+}
+
+// Octets in place of as many from an offset on. A loop: `copy_from_slice` asks the C library for memmove where nothing shows that the two lie apart, and the
+// archive for C asks for memcpy and memset alone.
+#[inline(always)]
+fn copy(d: &mut [u8], at: usize, xs: &[u8])
+    requires { at + length xs.now ≤ length d.old }
+    ensures { d.new ≡ stored d.old at xs.now }
+{
+    for i in 0..xs.len() {
+        d[at + i] = xs[i];
+    }
 }

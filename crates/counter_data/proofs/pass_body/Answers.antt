@@ -1,7 +1,8 @@
-use Rattle.counter_data.proofs.Bodies.{body_there}
+use mathlib.Core.Path.{sym, ◌∙◌}
+use Rattle.counter_data.proofs.Bodies.{body_in_one}
 use Rattle.counter_data.proofs.pass_body.Goals as goal
 
 pub returns : goal.returns
 returns c =
     let a = c.args in
-    body_there a.s.now _ _ a.version c.body_size-size.ensures c.if-s-at.false c.if-s-at-2.false
+    body_in_one a.s.now a.at _ a.version _ c.body_size.ensures (sym c.in-Ok.is ∙ c.pass_item.ensures)

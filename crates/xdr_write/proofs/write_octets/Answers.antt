@@ -1,6 +1,6 @@
 use native.Mathlib.Omega.{arith}
 use mathlib.Core.Path.{sym}
-use Rattle.xdr.proofs.Writing.{write_fits, write_full, stored_mid}
+use Rattle.xdr.proofs.Writing.{write_fits, write_full}
 use Rattle.xdr_write.proofs.write_octets.Goals as goal
 use Rattle.xdr_write.proofs.write_octets.Goals.{then-d-at-via-then-d-at, then-d-at-via-else-d-at+then-d-at-2}
 
@@ -12,6 +12,4 @@ returns-then-d-at c =
     ]
 
 pub returns : goal.returns
-returns c =
-    rw (c.copy_from_slice.ensures.after, stored_mid c.args.d.now c.args.at c.args.xs.now)
-    (sym (write_fits _ _ _ (omega arith)))
+returns c = rw c.copy.ensures (sym (write_fits _ _ _ (omega arith)))

@@ -1,6 +1,6 @@
 use native.Mathlib.Omega.{arith}
 use mathlib.Core.Path.{sym}
-use Rattle.xdr.proofs.Writing.{padded_length, filled_padded, write_fits_of, write_full_of, stored_mid}
+use Rattle.xdr.proofs.Writing.{padded_length, filled_padded, write_fits_of, write_full_of}
 use Rattle.xdr_write.proofs.write_padded.Goals as goal
 use Rattle.xdr_write.proofs.write_padded.Goals.{then-d-at-via-then-d-at, then-d-at-via-else-d-at+then-d-at-2}
 
@@ -15,6 +15,6 @@ pub returns : goal.returns
 returns c =
     let a = c.args in
     let cleared = c.fill.ensures.after (λ y e. e) in
-    rw (cleared, c.copy_from_slice.ensures.after, stored_mid a.d.now a.at a.xs.now)
+    rw (cleared, c.copy.ensures)
     (rw (filled_padded a.d.now a.at a.xs.now (omega arith))
     (sym (write_fits_of _ _ _ _ (padded_length a.xs.now) (omega arith))))
